@@ -24,7 +24,7 @@ use Rattle.px_bind.specs.declared.request.Query.{Query}
 use Rattle.px_paths.specs.Paths.{FitsRow, columns_on, index_path, is_held, shown_on, values_on}
 use Rattle.px_paths.proofs.Keys.{held_shown, index_key_fits, shown_key}
 use Rattle.px_plan.specs.Answers.{AreKeyed, Ascends, IsAnswer, by_order, by_path, comes_before, cut_off, row_answered}
-use Rattle.px_plan.specs.Naming.{columns_in, columns_in_all, filter_columns, holds_all, named, term_columns, test_columns}
+use Rattle.px_plan.specs.Naming.{columns_in, columns_in_all, columns_named, filter_columns, holds_all, term_columns, test_columns}
 use Rattle.px_plan.specs.PathColumns.{path_of}
 use Rattle.px_plan.specs.Plans.{HasKey, IsSelected}
 use Rattle.px_plan.proofs.OneAnswer.{here, nothing_in, one_answer, split, there}
@@ -149,7 +149,7 @@ given_shown t x q (r ∷ rows) h =
     ∙ ap (λ (ss : List (List values.Value)). row_answered q (shown_on t x r) ∷ ss) (given_shown t x q rows h)
 
 -- an answer over rows is one over what an index shows of them
-shown_answer : (t : Table) (x : Index) (q : Query) (rows answer : List (List values.Value)) → holds_all t x (named q) ≡ true → IsAnswer rows q (index_path t x) answer → IsAnswer (map (shown_on t x) rows) q (index_path t x) answer
+shown_answer : (t : Table) (x : Index) (q : Query) (rows answer : List (List values.Value)) → holds_all t x (columns_named q) ≡ true → IsAnswer rows q (index_path t x) answer → IsAnswer (map (shown_on t x) rows) q (index_path t x) answer
 shown_answer t x q rows answer h s =
     let f = shown_on t x in
     let places = map (λ p. p.column) q.order in
@@ -172,7 +172,7 @@ shown_answer t x q rows answer h s =
       given = s.given ∙ given_shown t x q (cut_off q.limit s.sorted) shown_held ∙ ap (λ (rs : List (List values.Value)). map (row_answered q) rs) (sym (cut_off_shown f q.limit s.sorted));
     }
 
-pub index_answer : (t : Table) (x : Index) (q : Query) (rows answer : List (List values.Value)) → AreKeyed t rows → holds_all t x (named q) ≡ true → IsAnswer rows q (index_path t x) answer ↔ IsAnswer (map (shown_on t x) rows) q (index_path t x) answer
+pub index_answer : (t : Table) (x : Index) (q : Query) (rows answer : List (List values.Value)) → AreKeyed t rows → holds_all t x (columns_named q) ≡ true → IsAnswer rows q (index_path t x) answer ↔ IsAnswer (map (shown_on t x) rows) q (index_path t x) answer
 index_answer t x q rows answer keyed h = (
   shown_answer t x q rows answer h,
   λ s. (let one = some_answer t (Some x) q rows keyed in

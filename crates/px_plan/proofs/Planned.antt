@@ -10,7 +10,7 @@ use Rattle.px_conjuncts.specs.Conjuncts.{all_true, conjuncts_of_filter}
 use Rattle.px_conjuncts.proofs.Conditions.{condition_is}
 use Rattle.px_conjuncts.proofs.Rests.{conjuncts_are, none_true}
 use Rattle.px_plan.specs.PathColumns.{path_of}
-use Rattle.px_plan.specs.Naming.{named}
+use Rattle.px_plan.specs.Naming.{columns_named}
 use Rattle.px_plan.specs.Plans.{AnswersPlan, IsPlan, IsSelected, conjuncts}
 use Rattle.px_plan.specs.Asked.{AnswersBy, IsPlanOf, asked_of}
 use Rattle.px_plan.specs.declared.plan.Asked.{Asked}
@@ -44,11 +44,11 @@ plan_is t q by p h = record {
   limit = h.limit;
 }
 
-pub answers_are : (found : Found) (point : Option ℕ) (q : Query) (r : Result Plan PlanFault) → AnswersBy found point (asked_of q) (named q) r → AnswersPlan found point q r
+pub answers_are : (found : Found) (point : Option ℕ) (q : Query) (r : Result Plan PlanFault) → AnswersBy found point (asked_of q) (columns_named q) r → AnswersPlan found point q r
 answers_are found point q (Ok p) h = (h.0, h.1, plan_is found.table q h.0 p h.2)
 answers_are found point q (Err IndexJoin) h = h
 answers_are found point q (Err Memory) h = tt
 
-pub answers_from : (found : Found) (point : Option ℕ) (q : Query) (a : Asked) (columns : List ℕ) (r : Result Plan PlanFault) → a ≡ asked_of q → columns ≡ named q → AnswersBy found point a columns r → AnswersPlan found point q r
+pub answers_from : (found : Found) (point : Option ℕ) (q : Query) (a : Asked) (columns : List ℕ) (r : Result Plan PlanFault) → a ≡ asked_of q → columns ≡ columns_named q → AnswersBy found point a columns r → AnswersPlan found point q r
 answers_from found point q a columns r e f h =
     answers_are found point q r (subst (λ (ns : List ℕ). AnswersBy found point (asked_of q) ns r) f (subst (λ (x : Asked). AnswersBy found point x columns r) e h))

@@ -10,7 +10,7 @@ use Rattle.px_tables.specs.declared.index.Index.{Index}
 use Rattle.px_plan.specs.declared.rank.Rank.{Rank}
 use Rattle.px_expr.specs.declared.bound.Bound.{Bound}
 use Rattle.px_tables.specs.declared.table.KeyPlace.{KeyPlace}
-use Rattle.px_plan.specs.Choice.{Alone, IsBest, IsBetter, candidates, is_usable, rank_of}
+use Rattle.px_plan.specs.Choice.{IsBest, IsBetter, OnlyTheFirst, candidates, is_usable, rank_of}
 
 -- a rank as a number
 abbrev bit : Bool → ℕ
@@ -21,7 +21,7 @@ abbrev weight : ℕ → Bool → Bool → ℕ
 weight e b o = 4 * e + (2 * bit b + bit o)
 
 abbrev Better : ℕ → Bool → Bool → ℕ → Bool → Bool → Type 0
-Better e b o f c p = (f < e) ⊎ ((e ≡ f) × (Alone b c ⊎ ((b ≡ c) × Alone o p)))
+Better e b o f c p = (f < e) ⊎ ((e ≡ f) × (OnlyTheFirst b c ⊎ ((b ≡ c) × OnlyTheFirst o p)))
 
 heavier : (e : ℕ) (b o : Bool) (f : ℕ) (c p : Bool) → Better e b o f c p → weight f c p < weight e b o
 heavier e true true f true true h = elim h [ inl l ↦ omega arith | inr r ↦ (let q = r.0 in elim r.1 [ inl y ↦ (let z = y.1 in cc) | inr y ↦ (let w = y.1 in let z = w.1 in cc) ]) ]

@@ -63,14 +63,14 @@ rank_on path conjuncts order =
 abbrev pub rank_of : Table → List Bound → List KeyPlace → Option Index → Rank
 rank_of t conjuncts order by = rank_on (path_of t by) conjuncts order
 
-abbrev pub Alone : Bool → Bool → Type 0
-Alone a b = (a ≡ true) × (b ≡ false)
+abbrev pub OnlyTheFirst : Bool → Bool → Type 0
+OnlyTheFirst a b = (a ≡ true) × (b ≡ false)
 
 -- more EQUAL, else RANGE, else the order of the ORDER BY
 abbrev pub IsBetter : Rank → Rank → Type 0
 IsBetter a b =
     (b.equal < a.equal)
-    ⊎ ((a.equal ≡ b.equal) × (Alone a.bounded b.bounded ⊎ ((a.bounded ≡ b.bounded) × Alone a.ordered b.ordered)))
+    ⊎ ((a.equal ≡ b.equal) × (OnlyTheFirst a.bounded b.bounded ⊎ ((a.bounded ≡ b.bounded) × OnlyTheFirst a.ordered b.ordered)))
 
 -- the first of these than which none is better
 pub record IsBest (rank : Option Index → Rank) (choices : List (Option Index)) (by : Option Index) : Type 0 where

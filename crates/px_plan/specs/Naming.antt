@@ -39,8 +39,8 @@ filter_columns None = []
 filter_columns (Some b) = columns_in b
 
 -- what is shown, what the condition names, and the ORDER BY
-abbrev pub named : Query → List ℕ
-named q = q.shown ++ (filter_columns q.filter ++ map (λ p. p.column) q.order)
+abbrev pub columns_named : Query → List ℕ
+columns_named q = q.shown ++ (filter_columns q.filter ++ map (λ p. p.column) q.order)
 
 -- an index holds all these columns
 abbrev pub holds_all : Table → Index → List ℕ → Bool

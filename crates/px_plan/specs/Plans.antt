@@ -15,7 +15,7 @@ use Rattle.px_conjuncts.specs.Conjuncts.{all_true, conjuncts_of_filter}
 use Rattle.px_conjuncts.specs.Paths.{conjuncts_left}
 use Rattle.px_paths.specs.declared.path.PathColumn.{PathColumn}
 use Rattle.px_plan.specs.PathColumns.{path_of}
-use Rattle.px_plan.specs.Naming.{named}
+use Rattle.px_plan.specs.Naming.{columns_named}
 use Rattle.px_plan.specs.Choice.{IsBest, Lacks, TakesPath, candidates, hinted, leading_by, rank_of}
 use Rattle.px_plan.specs.declared.plan.By.{By}
 use Rattle.px_plan.specs.declared.plan.By.TheVariants as bys
@@ -35,8 +35,8 @@ IsSelected (Some b) row = Selects b row
 -- the path is chosen by the hints, or as the best candidate
 abbrev pub IsChosen : Found → Option ℕ → Query → Option Index → Type 0
 IsChosen found point q by =
-    TakesPath (hinted found.indexes point q.hints) found.table (named q)
-    (IsBest (rank_of found.table (conjuncts q) q.order) (candidates found.table point (named q) found.indexes)) by
+    TakesPath (hinted found.indexes point q.hints) found.table (columns_named q)
+    (IsBest (rank_of found.table (conjuncts q) q.order) (candidates found.table point (columns_named q) found.indexes)) by
 
 -- the key of a row on a path, and a row whose key has values of its columns
 abbrev pub row_key_on : List PathColumn → List Value → List ℕ
@@ -72,5 +72,5 @@ pub record IsPlan (t : Table) (q : Query) (by : Option Index) (p : Plan) : Type 
 -- the plan by the path that is chosen; or the hinted index lacks a column; memory may be wanting at any time
 abbrev pub AnswersPlan : Found → Option ℕ → Query → Result Plan PlanFault → Type 0
 AnswersPlan found point q (Ok p) = (by : Option Index) × IsChosen found point q by × IsPlan found.table q by p
-AnswersPlan found point q (Err IndexJoin) = Lacks (hinted found.indexes point q.hints) found.table (named q)
+AnswersPlan found point q (Err IndexJoin) = Lacks (hinted found.indexes point q.hints) found.table (columns_named q)
 AnswersPlan found point q (Err Memory) = Unit {0}

@@ -5,7 +5,7 @@ ghost use Rattle.px_bind.specs.declared.request.Query.{Query};
 ghost use Rattle.px_paths.specs.Paths.{FitsRow, index_path, shown_on};
 ghost use Rattle.px_paths.specs.declared.path.PathColumn.{PathColumn};
 ghost use Rattle.px_plan.specs.Answers.{AreKeyed, IsAnswer};
-ghost use Rattle.px_plan.specs.Naming.{holds_all, named};
+ghost use Rattle.px_plan.specs.Naming.{columns_named, holds_all};
 ghost use Rattle.px_plan.specs.PathColumns.{path_of};
 ghost use Rattle.px_plan.specs.Plans.{HasKey};
 ghost use Rattle.px_tables.specs.declared.index.Index.{Index as Indexes};
@@ -21,5 +21,5 @@ pub fn law_answer()
     ensures same { (rows : List (List Value)) (q : Query) (path other : List PathColumn) (a b : List (List Value)) (x : IsAnswer rows q path a) (y : IsAnswer rows q other b) (row : List Value) → (Contains x.sorted row ↔ Contains y.sorted row) }
     ensures some { (t : Tables) (by : Option Indexes) (q : Query) (rows : List (List Value)) → AreKeyed t rows → ((answer : List (List Value)) × IsAnswer rows q (path_of t by) answer) }
     ensures keys { (t : Tables) (by : Option Indexes) (row : List Value) → FitsRow t row → HasKey (path_of t by) row }
-    ensures shown { (t : Tables) (x : Indexes) (q : Query) (rows answer : List (List Value)) → AreKeyed t rows → holds_all t x (named q) ≡ true → (IsAnswer rows q (index_path t x) answer ↔ IsAnswer (map (shown_on t x) rows) q (index_path t x) answer) }
+    ensures shown { (t : Tables) (x : Indexes) (q : Query) (rows answer : List (List Value)) → AreKeyed t rows → holds_all t x (columns_named q) ≡ true → (IsAnswer rows q (index_path t x) answer ↔ IsAnswer (map (shown_on t x) rows) q (index_path t x) answer) }
 {}

@@ -2,7 +2,7 @@
 ghost use Rattle.std.specs.Prelude.{◌≡◌, ◌++◌, IfOk, OnOk, map};
 ghost use Rattle.std.specs.List.{flat_map};
 ghost use Rattle.px_plan.specs.Asked.{columns_asked};
-ghost use Rattle.px_plan.specs.Naming.{columns_in, filter_columns, holds_all as holds_all_of, named, term_columns, test_columns};
+ghost use Rattle.px_plan.specs.Naming.{columns_in, columns_named, filter_columns, holds_all as holds_all_of, term_columns, test_columns};
 
 use crate::Asked;
 use px_bind::Query;
@@ -95,7 +95,7 @@ pub fn asked_columns(alloc: Global, asked: &Asked) -> Result<Vec<u8>, AllocError
 
 /// The columns that a query names, in text order.
 pub(crate) fn named_columns(alloc: Global, query: &Query) -> Result<Vec<u8>, AllocError>
-    ensures { IfOk result (λ columns. columns.items ≡ named query.now) }
+    ensures { IfOk result (λ columns. columns.items ≡ columns_named query.now) }
 {
     let mut columns = Vec::from_slice(alloc, query.shown.as_slice())?;
     add_filter(&query.filter, &mut columns)?;

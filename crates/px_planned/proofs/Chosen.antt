@@ -1,6 +1,7 @@
 -- The path that is chosen may be read, has the rows of the query, and shows what it names.
 use Rattle.std.proofs.Common.{◌≡◌, ◌≢◌, ◌<◌, inl, inr, ℕ, Bool, true, false, not, ◌&&◌, cond, nat_eq, nat_le, eq-eqb, List, [], ◌∷◌, ◌++◌, map, refl, sym, ap, subst, ◌∙◌, Option, Some, None, Result, Ok, Err, IfOk, arith, if◌then◌else◌}
 use Rattle.std.specs.List.{AllByRecursion, filter, flat_map}
+use Rattle.std.specs.Option.{option_map}
 use Rattle.std.proofs.lemmas.Cmp.{nat_list_cmp_total}
 use Rattle.std.proofs.lemmas.List.Elements.{All-cons, All-nil}
 use Rattle.std.proofs.lemmas.Bool.Decides.{nat_tests}
@@ -42,9 +43,11 @@ use Rattle.px_plan.specs.PathColumns.{path_of}
 use Rattle.px_plan.specs.Plans.{row_key_on}
 use Rattle.px_plan.specs.declared.plan.Asked.{Asked}
 use Rattle.px_plan.specs.declared.plan.PlanFault.TheVariants.{IndexJoin}
+use Rattle.px_plan.specs.declared.rank.Rank.{Rank}
 use Rattle.px_plan.proofs.IndexRows.{all_left, all_right, and_left, and_right, row_has_key, same_shown, same_truth}
-use Rattle.px_planned.specs.Queries.{IsPathBy, is_true, joins_at, lacks, meets_all, query_of, values_at}
+use Rattle.px_planned.specs.Queries.{IsPathBy, IsPathTaken, by_index, first_best, hinted_or, is_true, joins_at, lacks, meets_all, path_taken, query_of, takes_at, values_at}
 use Rattle.px_planned.specs.declared.planned.Planned.{Planned}
+use Rattle.px_planned.proofs.Taken.{best_is, is_best}
 
 -- ---- conditions
 
@@ -214,43 +217,6 @@ readable p i h =
     let b : nat_le i.birth p.stamp ≡ true = and_right (is_active i.state) (is_born (Some p.stamp) i.birth) h in
     (active_is i.state (and_left (is_active i.state) (is_born (Some p.stamp) i.birth) h), grind (arith, nat_tests, b))
 
--- ---- the path of the table, and of an index
-
-keys_led : (t : Table) (a : Asked) (by : Option Index) (path : Path) (row : List Value) → IsPathBy t a by path → FitsRow t row → meets_all a.conjuncts row ≡ true → is_on path (row_key_on (path_of t by) row) ≡ true
-keys_led t a by path row h fits m = between_on path (row_key_on (path_of t by) row) ((h.keys row (row_has_key t by row fits)).1 ((conjuncts_are (path_of t by) a.conjuncts row).0 (met a.conjuncts row m)).0)
-
-pub table_path_is : (q : Planned) (p : Point) (path : Path) → p.found.table ≡ q.table → IsPathBy p.found.table q.asked None path → IsPathFor (query_of q) p path
-table_path_is q p path bound h =
-    record {
-      can = subst (λ (b : By). CanReadBy p b) (sym h.by_is) tt;
-      has_all = λ row fits m. subst (λ (b : By). is_on path (key_by p.found b row) ≡ true) (sym h.by_is) (keys_led p.found.table q.asked None path row h fits m);
-      meets = λ row. subst (λ (b : By). meets_all q.asked.conjuncts (shown_by p.found b row) ≡ meets_all q.asked.conjuncts row) (sym h.by_is) refl;
-      named = λ row. subst (λ (b : By). values_at (columns_asked q.asked) (shown_by p.found b row) ≡ values_at (columns_asked q.asked) row) (sym h.by_is) refl;
-    }
-
-pub index_path_is : (q : Planned) (p : Point) (path : Path) (i : Index) → AreRising p.found.indexes → Stands p.found.indexes (Some p.stamp) p.found.table (columns_asked q.asked) i → IsPathBy p.found.table q.asked (Some i) path → IsPathFor (query_of q) p path
-index_path_is q p path i rising s h =
-    let t = p.found.table in
-    let a = q.asked in
-    let is : index_of_found p.found i.id.0 ≡ Some i = among_found p.found.indexes i rising s.among in
-    let places = map (λ c. c.column) a.order in
-    let rest = all_right (is_held t i) a.shown (flat_map columns_in a.conjuncts ++ places) s.holds in
-    let condition = all_left (is_held t i) (flat_map columns_in a.conjuncts) places rest in
-    record {
-      can = subst (λ (b : By). CanReadBy p b) (sym h.by_is) (subst (λ (o : Option Index). IsReadable p o) (sym is) (readable p i s.usable));
-      has_all = λ row fits m. subst (λ (b : By). is_on path (key_by p.found b row) ≡ true) (sym h.by_is)
-          (subst (λ (o : Option Index). is_on path (row_key_on (index_path_in p.found o) row) ≡ true) (sym is) (keys_led t a (Some i) path row h fits m));
-      meets = λ row. subst (λ (b : By). meets_all a.conjuncts (shown_by p.found b row) ≡ meets_all a.conjuncts row) (sym h.by_is)
-          (subst (λ (o : Option Index). meets_all a.conjuncts (shown_in p.found o row) ≡ meets_all a.conjuncts row) (sym is) (same_meets t i row a.conjuncts condition));
-      named = λ row. subst (λ (b : By). values_at (columns_asked a) (shown_by p.found b row) ≡ values_at (columns_asked a) row) (sym h.by_is)
-          (subst (λ (o : Option Index). values_at (columns_asked a) (shown_in p.found o row) ≡ values_at (columns_asked a) row) (sym is) (same_shown t i (shown_on t i row) row (λ k e. held_shown t i row k e) (columns_asked a) s.holds));
-    }
-
-pub chosen_path : (q : Planned) (p : Point) (path : Path) (columns : List ℕ) (by : Option Index) → p.found.table ≡ q.table → AreRising p.found.indexes → columns ≡ columns_asked q.asked → TakesFor p.found (Some p.stamp) q.asked columns by → IsPathBy p.found.table q.asked by path → IsPathFor (query_of q) p path
-chosen_path q p path columns None bound rising e taken h = table_path_is q p path bound h
-chosen_path q p path columns (Some i) bound rising e taken h =
-    index_path_is q p path i rising (taken_stands p.found (Some p.stamp) q.asked (columns_asked q.asked) i (subst (λ (cs : List ℕ). TakesFor p.found (Some p.stamp) q.asked cs (Some i)) e taken)) h
-
 -- ---- a path that is taken needs no join
 
 pub taken_alone : (found : Found) (stamp : ℕ) (a : Asked) (columns : List ℕ) (by : Option Index) → columns ≡ columns_asked a → TakesFor found (Some stamp) a columns by → joins_at a found stamp ≡ false
@@ -276,6 +242,102 @@ lacking found stamp a columns c h = by_hint (hinted found.indexes (Some stamp) a
     by_hint (Some (Some i)) e =
         let k : holds_all found.table i columns ≡ false = subst (λ (o : Option (Option Index)). Lacks o found.table columns) e h in
         ap (λ (o : Option (Option Index)). lacks o found.table (columns_asked a)) e ∙ ap (λ (cs : List ℕ). not (holds_all found.table i cs)) (sym c) ∙ ap not k
+
+-- ---- the path that is taken, as a value
+
+hinted_is : (t : Table) (columns : List ℕ) (rank : Option Index → Rank) (choices : List (Option Index)) (hint : Option (Option Index)) (i : Option Index) → TakesPath hint t columns (IsBest rank choices) i → hinted_or hint (first_best rank choices) ≡ i
+hinted_is t columns rank choices None i h = best_is rank choices i h
+hinted_is t columns rank choices (Some by) i h = sym h.0
+
+abbrev best_at : Asked → Found → ℕ → Option Index
+best_at a found stamp = first_best (rank_of found.table a.conjuncts a.order) (candidates found.table (Some stamp) (columns_asked a) found.indexes)
+
+abbrev path_if : Asked → Found → ℕ → Bool → Option (Option Index)
+path_if a found stamp b = if b then None else Some (hinted_or (hinted found.indexes (Some stamp) a.hints) (best_at a found stamp))
+
+path_value : (a : Asked) (found : Found) (stamp : ℕ) → path_taken a found stamp ≡ path_if a found stamp (joins_at a found stamp)
+unfolding path_taken
+path_value a found stamp = refl
+
+path_is : (a : Asked) (found : Found) (stamp : ℕ) (i : Option Index) → TakesFor found (Some stamp) a (columns_asked a) i → path_taken a found stamp ≡ Some i
+path_is a found stamp i h =
+    let t = found.table in
+    let rank = rank_of t a.conjuncts a.order in
+    let choices = candidates t (Some stamp) (columns_asked a) found.indexes in
+    let hint = hinted found.indexes (Some stamp) a.hints in
+    path_value a found stamp ∙ ap (path_if a found stamp) (taken_alone found stamp a (columns_asked a) i refl h) ∙ ap Some (hinted_is t (columns_asked a) rank choices hint i h)
+
+holds_is : (b : Bool) → not b ≡ false → b ≡ true
+holds_is true h = refl
+holds_is false h = absurd (let z : ◌≡◌ {A = Bool} true false = h in cc)
+
+hinted_takes : (t : Table) (point : Option ℕ) (indexes : List Index) (columns : List ℕ) (rank : Option Index → Rank) (hint : Option (Option Index)) → lacks hint t columns ≡ false
+    → TakesPath hint t columns (IsBest rank (candidates t point columns indexes)) (hinted_or hint (first_best rank (candidates t point columns indexes)))
+hinted_takes t point indexes columns rank None h = is_best rank None (map Some (filter (λ x. is_usable point x && holds_all t x columns) indexes))
+hinted_takes t point indexes columns rank (Some None) h = (refl, tt)
+hinted_takes t point indexes columns rank (Some (Some i)) h = (refl, holds_is (holds_all t i columns) h)
+
+same_some : {A : Type 0} (x y : A) → ◌≡◌ {A = Option A} (Some x) (Some y) → x ≡ y
+same_some x y e = cc
+
+takes_if : (a : Asked) (found : Found) (stamp : ℕ) (i : Option Index) → path_taken a found stamp ≡ Some i → TakesFor found (Some stamp) a (columns_asked a) i
+takes_if a found stamp i h = by_test (joins_at a found stamp) refl
+  where
+    by_test : (b : Bool) → joins_at a found stamp ≡ b → TakesFor found (Some stamp) a (columns_asked a) i
+    by_test true e = absurd (let z : ◌≡◌ {A = Option (Option Index)} None (Some i) = sym (path_value a found stamp ∙ ap (path_if a found stamp) e) ∙ h in cc)
+    by_test false e =
+        let is : hinted_or (hinted found.indexes (Some stamp) a.hints) (best_at a found stamp) ≡ i = same_some _ i (sym (path_value a found stamp ∙ ap (path_if a found stamp) e) ∙ h) in
+        subst (λ (o : Option Index). TakesFor found (Some stamp) a (columns_asked a) o) is
+        (hinted_takes found.table (Some stamp) found.indexes (columns_asked a) (rank_of found.table a.conjuncts a.order) (hinted found.indexes (Some stamp) a.hints) e)
+
+pub takes_as : (a : Asked) (found : Found) (stamp : ℕ) (by : By) → IsPathTaken a found stamp by → takes_at a found stamp ≡ Some by
+takes_as a found stamp by h = ap (option_map by_index) (path_is a found stamp h.0 h.1) ∙ ap Some (sym h.2)
+
+pub taken_if : (a : Asked) (found : Found) (stamp : ℕ) (by : By) → takes_at a found stamp ≡ Some by → IsPathTaken a found stamp by
+taken_if a found stamp by h = by_value (path_taken a found stamp) refl
+  where
+    by_value : (o : Option (Option Index)) → path_taken a found stamp ≡ o → IsPathTaken a found stamp by
+    by_value None e = absurd (let z : ◌≡◌ {A = Option By} None (Some by) = sym (ap (option_map by_index) e) ∙ h in cc)
+    by_value (Some i) e = (i, takes_if a found stamp i e, same_some by (by_index i) (sym h ∙ ap (option_map by_index) e))
+
+-- ---- the path of the table, and of an index
+
+keys_led : (t : Table) (a : Asked) (by : Option Index) (path : Path) (row : List Value) → IsPathBy t a by path → FitsRow t row → meets_all a.conjuncts row ≡ true → is_on path (row_key_on (path_of t by) row) ≡ true
+keys_led t a by path row h fits m = between_on path (row_key_on (path_of t by) row) ((h.keys row (row_has_key t by row fits)).1 ((conjuncts_are (path_of t by) a.conjuncts row).0 (met a.conjuncts row m)).0)
+
+pub table_path_is : (q : Planned) (p : Point) (path : Path) → p.found.table ≡ q.table → TakesFor p.found (Some p.stamp) q.asked (columns_asked q.asked) None → IsPathBy p.found.table q.asked None path → IsPathFor (query_of q) p path
+table_path_is q p path bound takes h =
+    record {
+      taken = takes_as q.asked p.found p.stamp path.by (None, takes, h.by_is);
+      can = subst (λ (b : By). CanReadBy p b) (sym h.by_is) tt;
+      has_all = λ row fits m. subst (λ (b : By). is_on path (key_by p.found b row) ≡ true) (sym h.by_is) (keys_led p.found.table q.asked None path row h fits m);
+      meets = λ row. subst (λ (b : By). meets_all q.asked.conjuncts (shown_by p.found b row) ≡ meets_all q.asked.conjuncts row) (sym h.by_is) refl;
+      named = λ row. subst (λ (b : By). values_at (columns_asked q.asked) (shown_by p.found b row) ≡ values_at (columns_asked q.asked) row) (sym h.by_is) refl;
+    }
+
+pub index_path_is : (q : Planned) (p : Point) (path : Path) (i : Index) → AreRising p.found.indexes → TakesFor p.found (Some p.stamp) q.asked (columns_asked q.asked) (Some i) → IsPathBy p.found.table q.asked (Some i) path → IsPathFor (query_of q) p path
+index_path_is q p path i rising takes h =
+    let s = taken_stands p.found (Some p.stamp) q.asked (columns_asked q.asked) i takes in
+    let t = p.found.table in
+    let a = q.asked in
+    let is : index_of_found p.found i.id.0 ≡ Some i = among_found p.found.indexes i rising s.among in
+    let places = map (λ c. c.column) a.order in
+    let rest = all_right (is_held t i) a.shown (flat_map columns_in a.conjuncts ++ places) s.holds in
+    let condition = all_left (is_held t i) (flat_map columns_in a.conjuncts) places rest in
+    record {
+      taken = takes_as q.asked p.found p.stamp path.by (Some i, takes, h.by_is);
+      can = subst (λ (b : By). CanReadBy p b) (sym h.by_is) (subst (λ (o : Option Index). IsReadable p o) (sym is) (readable p i s.usable));
+      has_all = λ row fits m. subst (λ (b : By). is_on path (key_by p.found b row) ≡ true) (sym h.by_is)
+          (subst (λ (o : Option Index). is_on path (row_key_on (index_path_in p.found o) row) ≡ true) (sym is) (keys_led t a (Some i) path row h fits m));
+      meets = λ row. subst (λ (b : By). meets_all a.conjuncts (shown_by p.found b row) ≡ meets_all a.conjuncts row) (sym h.by_is)
+          (subst (λ (o : Option Index). meets_all a.conjuncts (shown_in p.found o row) ≡ meets_all a.conjuncts row) (sym is) (same_meets t i row a.conjuncts condition));
+      named = λ row. subst (λ (b : By). values_at (columns_asked a) (shown_by p.found b row) ≡ values_at (columns_asked a) row) (sym h.by_is)
+          (subst (λ (o : Option Index). values_at (columns_asked a) (shown_in p.found o row) ≡ values_at (columns_asked a) row) (sym is) (same_shown t i (shown_on t i row) row (λ k e. held_shown t i row k e) (columns_asked a) s.holds));
+    }
+
+pub chosen_path : (q : Planned) (p : Point) (path : Path) (columns : List ℕ) (by : Option Index) → p.found.table ≡ q.table → AreRising p.found.indexes → columns ≡ columns_asked q.asked → TakesFor p.found (Some p.stamp) q.asked columns by → IsPathBy p.found.table q.asked by path → IsPathFor (query_of q) p path
+chosen_path q p path columns None bound rising e taken h = table_path_is q p path bound (subst (λ (cs : List ℕ). TakesFor p.found (Some p.stamp) q.asked cs None) e taken) h
+chosen_path q p path columns (Some i) bound rising e taken h = index_path_is q p path i rising (subst (λ (cs : List ℕ). TakesFor p.found (Some p.stamp) q.asked cs (Some i)) e taken) h
 
 pub all_chosen : (q : Planned) (p : Point) (columns : List ℕ) (by : Option Index) (r : Result Path PathFault) → p.found.table ≡ q.table → AreRising p.found.indexes → columns ≡ columns_asked q.asked → TakesFor p.found (Some p.stamp) q.asked columns by → IfOk r (IsPathBy p.found.table q.asked by) → IfOk r (IsPathFor (query_of q) p)
 all_chosen q p columns by (Ok path) bound rising c taken h = chosen_path q p path columns by bound rising c taken h

@@ -5,6 +5,8 @@
 //! shows each column that the query names. With an ORDER BY LIMIT doesn't end the scan.
 #![tactic(auto)]
 
+mod laws;
 mod planned;
 
+pub use laws::law_taken;
 pub use planned::Planned;

@@ -18,7 +18,7 @@ use Rattle.px_scan.specs.declared.machine.QueryState.TheVariants as state
 use Rattle.px_scan.specs.declared.machine.Rest.{Rest}
 use Rattle.px_scan.specs.declared.machine.Scan.{Scan}
 use Rattle.px_scan.specs.Bounds.{AreSpending, HasFound, HaveFound, Spends, counted, counted_in, left_of, through}
-use Rattle.px_scan.specs.Chains.{Step, state_after}
+use Rattle.px_scan.specs.Chains.{QueryStep, query_after}
 use Rattle.px_scan.specs.Turns.{IsQueryNew}
 
 through_some : (keys : List FoundKey) (next : Option (List ℕ)) → 1 ≤ through keys next
@@ -117,8 +117,8 @@ spends_look sound k k' x after c keys next new keys_are next_is did le =
 
 -- 3. Steps, one after another
 
-pub bounded : (sound : Type 0) (s : QueryState) (os : List Step) → AreSpending sound s os
-    → (n : ℕ) × HaveFound sound s os n × (counted_in s os + left_of (state_after s os) ≤ left_of s + 3 * n)
+pub bounded : (sound : Type 0) (s : QueryState) (os : List QueryStep) → AreSpending sound s os
+    → (n : ℕ) × HaveFound sound s os n × (counted_in s os + left_of (query_after s os) ≤ left_of s + 3 * n)
 bounded sound s [] h = (0, refl, omega arith)
 bounded sound s (o ∷ os) h =
     let one = h.0.left in
@@ -126,7 +126,7 @@ bounded sound s (o ∷ os) h =
     let others = rest.2 in
     (h.0.keys + rest.0, (h.0.keys, rest.0, h.0.found, rest.1, refl), omega arith)
 
-pub at_most : (sound : Type 0) (s : QueryState) (os : List Step) → IsQueryNew s → AreSpending sound s os
+pub at_most : (sound : Type 0) (s : QueryState) (os : List QueryStep) → IsQueryNew s → AreSpending sound s os
     → (n : ℕ) × HaveFound sound s os n × (counted_in s os ≤ 3 + 3 * n)
 at_most sound (state.Opening rows) os new h =
     let most = bounded sound (state.Opening rows) os h in

@@ -15,7 +15,7 @@ use Rattle.px_scan.specs.declared.machine.QueryState.{QueryState}
 use Rattle.px_scan.specs.declared.machine.QueryState.TheVariants as state
 use Rattle.px_scan.specs.declared.machine.Rest.{Rest}
 use Rattle.px_scan.specs.declared.machine.Scan.{Scan}
-use Rattle.px_scan.specs.Chains.{Step, state_after}
+use Rattle.px_scan.specs.Chains.{QueryStep, query_after}
 use Rattle.px_scan.specs.Looking.{AreLooking, HasFoundDoubts, HaveFoundDoubts, Looks, asked_by, doubts_in, looked_after, refused_in, to_look}
 use Rattle.px_scan.specs.Turns.{IsQueryNew}
 
@@ -60,8 +60,8 @@ looks_chunk sound k m k' n x after c keys new keys_are did same le =
 
 -- 3. Steps, one after another
 
-pub bounded : (sound : Type 0) (m : ℕ) (s : QueryState) (os : List Step) → AreLooking sound m s os
-    → (d : ℕ) × HaveFoundDoubts sound s os d × (looked_after m os + to_look (state_after s os) ≤ m + to_look s + 2 * d + refused_in s os)
+pub bounded : (sound : Type 0) (m : ℕ) (s : QueryState) (os : List QueryStep) → AreLooking sound m s os
+    → (d : ℕ) × HaveFoundDoubts sound s os d × (looked_after m os + to_look (query_after s os) ≤ m + to_look s + 2 * d + refused_in s os)
 bounded sound m s [] h = (0, refl, omega arith)
 bounded sound m s (o ∷ os) h =
     let one = h.0.left in
@@ -69,7 +69,7 @@ bounded sound m s (o ∷ os) h =
     let others = rest.2 in
     (h.0.doubts + rest.0, (h.0.doubts, rest.0, h.0.found, rest.1, refl), omega arith)
 
-pub at_most : (sound : Type 0) (m : ℕ) (s : QueryState) (os : List Step) → IsQueryNew s → AreLooking sound m s os
+pub at_most : (sound : Type 0) (m : ℕ) (s : QueryState) (os : List QueryStep) → IsQueryNew s → AreLooking sound m s os
     → (d : ℕ) × HaveFoundDoubts sound s os d × (looked_after m os ≤ m + 2 * d + refused_in s os)
 at_most sound m (state.Opening rows) os new h =
     let most = bounded sound m (state.Opening rows) os h in

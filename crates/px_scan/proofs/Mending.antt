@@ -35,7 +35,7 @@ use Rattle.px_scan.specs.declared.machine.QueryState.{QueryState}
 use Rattle.px_scan.specs.declared.machine.QueryState.TheVariants as state
 use Rattle.px_scan.specs.declared.machine.Rest.{Rest}
 use Rattle.px_scan.specs.declared.machine.Scan.{Scan}
-use Rattle.px_scan.specs.Chains.{AreSteps, AreUnfaulted, IsUnfaulted, Step, state_after}
+use Rattle.px_scan.specs.Chains.{AreSteps, AreUnfaulted, IsUnfaulted, QueryStep, query_after}
 use Rattle.px_scan.specs.Faults.{is_busy}
 use Rattle.px_scan.specs.Fixes.{AreFixed, AreKeepingDoubts, AreRisingDoubts, HasDoubts, HasFixedEntry, IsDoubtful, IsDue, IsFixedBy, IsFixedLater, KeepsDoubts}
 use Rattle.px_scan.specs.Turns.{AfterFix, IsQueryNew}
@@ -257,16 +257,16 @@ rest_rising f p low found keys same rising doubts = subst (AreRisingDoubts f p l
 
 -- 4. Steps, one after another
 
-here : (d : Doubt) (o : Step) (os : List Step) → Adds o.before o.after (act.Fixed d.index d.key) → HasFixedEntry d (o ∷ os)
+here : (d : Doubt) (o : QueryStep) (os : List QueryStep) → Adds o.before o.after (act.Fixed d.index d.key) → HasFixedEntry d (o ∷ os)
 unfolding IsAmong
 here d o os h = record { step = o; among = inl refl; adds = h }
 
-later : (d e : Doubt) (o : Step) (os : List Step) → e ≡ d → HasFixedEntry e os → HasFixedEntry d (o ∷ os)
+later : (d e : Doubt) (o : QueryStep) (os : List QueryStep) → e ≡ d → HasFixedEntry e os → HasFixedEntry d (o ∷ os)
 unfolding IsAmong
 later d e o os same h = record { step = h.step; among = inr h.among; adds = subst (λ (z : Doubt). Adds h.step.before h.step.after (act.Fixed z.index z.key)) same h.adds }
 
 -- a repair goes on after upkeep with the same doubt, or it was made
-goes_on : (x : Scan) (r : Rest) (d : Doubt) (o : Step) (s : QueryState) → AfterFix d o.before s o.after → IsFixedBy (state.Fixing x r d) o.before s o.after → IsUnfaulted s → d.verdict ≢ Some Leave → IsToFix s d ⊎ Adds o.before o.after (act.Fixed d.index d.key)
+goes_on : (x : Scan) (r : Rest) (d : Doubt) (o : QueryStep) (s : QueryState) → AfterFix d o.before s o.after → IsFixedBy (state.Fixing x r d) o.before s o.after → IsUnfaulted s → d.verdict ≢ Some Leave → IsToFix s d ⊎ Adds o.before o.after (act.Fixed d.index d.key)
 goes_on x r d o (state.Opening rows) h by u told = inr (by told)
 goes_on x r d o (state.Looking y a) h by u told = inr (by told)
 goes_on x r d o (state.Consulting y z e) h by u told = inr (by told)
@@ -279,7 +279,7 @@ goes_on x r d o state.Over h by u told = inr (by told)
 moved : (f : Point → IndexVersion → Bool) (k k' : Known) (s : QueryState) → k' ≡ k → HasDoubts f k s → HasDoubts f k' s
 moved f k k' s same h = subst (λ (z : Known). HasDoubts f z s) (sym same) h
 
-entry_at_last : (sound : Type 0) (q : Query) (scn : Option ℕ) (f : Point → IndexVersion → Bool) (d : Doubt) (s : QueryState) (k : Known) (os : List Step) → IsToFix s d → d.verdict ≢ Some Leave → HasDoubts f k s → AreSteps sound q scn s k os → AreKeepingDoubts k f s os → AreUnfaulted os → state_after s os ≡ state.Over → HasFixedEntry d os
+entry_at_last : (sound : Type 0) (q : Query) (scn : Option ℕ) (f : Point → IndexVersion → Bool) (d : Doubt) (s : QueryState) (k : Known) (os : List QueryStep) → IsToFix s d → d.verdict ≢ Some Leave → HasDoubts f k s → AreSteps sound q scn s k os → AreKeepingDoubts k f s os → AreUnfaulted os → query_after s os ≡ state.Over → HasFixedEntry d os
 entry_at_last sound q scn f d (state.Opening rows) k os t told w h a u e = absurd t
 entry_at_last sound q scn f d (state.Looking x c) k os t told w h a u e = absurd t
 entry_at_last sound q scn f d (state.Consulting x r z) k os t told w h a u e = absurd t
@@ -300,7 +300,7 @@ entry_at_last sound q scn f d (state.Settling x r z) k (o ∷ os) t told w h a u
     later d z o os t (entry_at_last sound q scn o.doubtful z o.state o.after os (works z o.state h.1.edge u.0) own (a.1.kept was) h.2 a.2 u.1 e)
 
 -- where a step consulted a doubt
-one_later : (sound : Type 0) (q : Query) (scn : Option ℕ) (f : Point → IndexVersion → Bool) (old new : QueryState) (k : Known) (os : List Step) → HasDoubts f k new → AreSteps sound q scn new k os → AreKeepingDoubts k f new os → AreUnfaulted os → state_after new os ≡ state.Over → IsFixedLater old new os
+one_later : (sound : Type 0) (q : Query) (scn : Option ℕ) (f : Point → IndexVersion → Bool) (old new : QueryState) (k : Known) (os : List QueryStep) → HasDoubts f k new → AreSteps sound q scn new k os → AreKeepingDoubts k f new os → AreUnfaulted os → query_after new os ≡ state.Over → IsFixedLater old new os
 one_later sound q scn f (state.Consulting x r d) (state.Fixing y r' z) k os w h a u e = λ told. entry_at_last sound q scn f z (state.Fixing y r' z) k os refl told w h a u e
 one_later sound q scn f (state.Consulting x r d) (state.Opening rows) k os w h a u e = tt
 one_later sound q scn f (state.Consulting x r d) (state.Looking y c) k os w h a u e = tt
@@ -315,13 +315,13 @@ one_later sound q scn f (state.Settling x r d) new k os w h a u e = tt
 one_later sound q scn f (state.Closing p end) new k os w h a u e = tt
 one_later sound q scn f state.Over new k os w h a u e = tt
 
-pub all_fixed : (sound : Type 0) (q : Query) (scn : Option ℕ) (f : Point → IndexVersion → Bool) (s : QueryState) (k : Known) (os : List Step) → HasDoubts f k s → AreSteps sound q scn s k os → AreKeepingDoubts k f s os → AreUnfaulted os → state_after s os ≡ state.Over → AreFixed s os
+pub all_fixed : (sound : Type 0) (q : Query) (scn : Option ℕ) (f : Point → IndexVersion → Bool) (s : QueryState) (k : Known) (os : List QueryStep) → HasDoubts f k s → AreSteps sound q scn s k os → AreKeepingDoubts k f s os → AreUnfaulted os → query_after s os ≡ state.Over → AreFixed s os
 all_fixed sound q scn f s k [] w h a u e = tt
 all_fixed sound q scn f s k (o ∷ os) w h a u e =
     let then = a.1.kept (moved f k o.before s a.0 w) in
     (one_later sound q scn o.doubtful s o.state o.after os then h.2 a.2 u.1 e, all_fixed sound q scn o.doubtful o.state o.after os then h.2 a.2 u.1 e)
 
-pub fixed_from_new : (sound : Type 0) (q : Query) (scn : Option ℕ) (f : Point → IndexVersion → Bool) (s : QueryState) (k : Known) (os : List Step) → IsQueryNew s → AreSteps sound q scn s k os → AreKeepingDoubts k f s os → AreUnfaulted os → state_after s os ≡ state.Over → AreFixed s os
+pub fixed_from_new : (sound : Type 0) (q : Query) (scn : Option ℕ) (f : Point → IndexVersion → Bool) (s : QueryState) (k : Known) (os : List QueryStep) → IsQueryNew s → AreSteps sound q scn s k os → AreKeepingDoubts k f s os → AreUnfaulted os → query_after s os ≡ state.Over → AreFixed s os
 fixed_from_new sound q scn f (state.Opening rows) k os new h a u e = all_fixed sound q scn f (state.Opening rows) k os tt h a u e
 fixed_from_new sound q scn f (state.Looking x c) k os new h a u e = absurd new
 fixed_from_new sound q scn f (state.Consulting x r d) k os new h a u e = absurd new

@@ -10,7 +10,7 @@ use Rattle.px_scan.specs.declared.keys.Stop.{Stop}
 use Rattle.px_scan.specs.declared.keys.Stop.TheVariants as stop
 use Rattle.px_scan.specs.declared.machine.QueryState.{QueryState}
 use Rattle.px_scan.specs.declared.machine.QueryState.TheVariants as state
-use Rattle.px_scan.specs.Chains.{Step}
+use Rattle.px_scan.specs.Chains.{QueryStep}
 
 -- behind the keys of a chunk: a look where there are more keys, and the closing
 abbrev pub behind : Option (List ℕ) → ℕ
@@ -55,16 +55,16 @@ AreFewer old new (stop.Doubt d) = length new < length old
 AreFewer old new s = Unit {0}
 
 -- each of the steps is one of a query
-abbrev pub AreSpending : Type 0 → QueryState → List Step → Type 0
+abbrev pub AreSpending : Type 0 → QueryState → List QueryStep → Type 0
 AreSpending sound s [] = Unit {0}
 AreSpending sound s (o ∷ os) = Spends sound s o.before o.state o.after o.turn × AreSpending sound o.state os
 
 -- how many of the steps count
-abbrev pub counted_in : QueryState → List Step → ℕ
+abbrev pub counted_in : QueryState → List QueryStep → ℕ
 counted_in s [] = 0
 counted_in s (o ∷ os) = counted s o.state o.turn + counted_in o.state os
 
 -- so many keys were found in all
-abbrev pub HaveFound : Type 0 → QueryState → List Step → ℕ → Type 0
+abbrev pub HaveFound : Type 0 → QueryState → List QueryStep → ℕ → Type 0
 HaveFound sound s [] n = n ≡ 0
 HaveFound sound s (o ∷ os) n = (one : ℕ) × (others : ℕ) × HasFound sound s o.before o.after one × HaveFound sound o.state os others × (n ≡ one + others)

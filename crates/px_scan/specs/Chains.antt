@@ -16,7 +16,7 @@ use Rattle.px_scan.specs.Turns.{QueryTurns}
 
 -- a step: what the seat knew before and after its call, the state then, what it came to, how many rows of tables were looked at by then, and which
 -- versions of index rows were then in doubt
-pub record Step : Type 0 where
+pub record QueryStep : Type 0 where
   pub before : Known
   pub after : Known
   pub state : QueryState
@@ -25,33 +25,33 @@ pub record Step : Type 0 where
   pub doubtful : Point → IndexVersion → Bool
 
 -- steps from a state on, with others' entries before each
-abbrev pub AreSteps : Type 0 → Query → Option ℕ → QueryState → Known → List Step → Type 0
+abbrev pub AreSteps : Type 0 → Query → Option ℕ → QueryState → Known → List QueryStep → Type 0
 AreSteps sound q scn s k [] = Unit {0}
 AreSteps sound q scn s k (o ∷ os) = TimePasses k o.before × QueryTurns sound q scn s o.before o.state o.after o.turn × AreSteps sound q scn o.state o.after os
 
-abbrev pub state_after : QueryState → List Step → QueryState
-state_after s [] = s
-state_after s (o ∷ os) = state_after o.state os
+abbrev pub query_after : QueryState → List QueryStep → QueryState
+query_after s [] = s
+query_after s (o ∷ os) = query_after o.state os
 
 -- the state tells no fault
 abbrev pub IsUnfaulted : QueryState → Type 0
 IsUnfaulted (state.Closing p (Err f)) = ⊥
 IsUnfaulted s = Unit {0}
 
-abbrev pub AreUnfaulted : List Step → Type 0
+abbrev pub AreUnfaulted : List QueryStep → Type 0
 AreUnfaulted [] = Unit {0}
 AreUnfaulted (o ∷ os) = IsUnfaulted o.state × AreUnfaulted os
 
 -- one of the steps fixed the doubt
-pub record HasFix (d : Doubt) (os : List Step) : Type 0 where
-  pub step : Step
+pub record HasFix (d : Doubt) (os : List QueryStep) : Type 0 where
+  pub step : QueryStep
   pub among : IsAmong step os
   pub answer : Fixing
   pub fixed : DidFix step.before step.after d answer
 
 -- one of the steps consulted the doubt, and one fixed it as that left it
-pub record IsDoubtSettled (sound : Type 0) (p : Point) (d : Doubt) (os : List Step) : Type 0 where
-  pub step : Step
+pub record IsDoubtSettled (sound : Type 0) (p : Point) (d : Doubt) (os : List QueryStep) : Type 0 where
+  pub step : QueryStep
   pub among : IsAmong step os
   pub left : Doubt
   pub held : Option Held

@@ -14,7 +14,7 @@ use Rattle.px_scan.specs.declared.keys.Stop.{Stop}
 use Rattle.px_scan.specs.declared.keys.Stop.TheVariants as stop
 use Rattle.px_scan.specs.declared.machine.QueryState.{QueryState}
 use Rattle.px_scan.specs.declared.machine.QueryState.TheVariants as state
-use Rattle.px_scan.specs.Chains.{Step}
+use Rattle.px_scan.specs.Chains.{QueryStep}
 
 -- keys that rise from one on, of which each doubt is of a version that is in doubt
 abbrev pub AreRisingDoubts : (Point → IndexVersion → Bool) → Point → Option (List ℕ) → List FoundKey → Type 0
@@ -53,22 +53,22 @@ pub record KeepsDoubts (old : QueryState) (k : Known) (f : Point → IndexVersio
   pub fixed : HasDoubts f k old → IsFixedBy old k new k'
 
 -- each of the steps is one of a query, with no step of others between them
-abbrev pub AreKeepingDoubts : Known → (Point → IndexVersion → Bool) → QueryState → List Step → Type 0
+abbrev pub AreKeepingDoubts : Known → (Point → IndexVersion → Bool) → QueryState → List QueryStep → Type 0
 AreKeepingDoubts k f s [] = Unit {0}
 AreKeepingDoubts k f s (o ∷ os) = (o.before ≡ k) × KeepsDoubts s o.before f o.state o.after o.doubtful × AreKeepingDoubts o.after o.doubtful o.state os
 
 -- one of the steps added the entry of the doubt's repair
-pub record HasFixedEntry (d : Doubt) (os : List Step) : Type 0 where
-  pub step : Step
+pub record HasFixedEntry (d : Doubt) (os : List QueryStep) : Type 0 where
+  pub step : QueryStep
   pub among : IsAmong step os
   pub adds : Adds step.before step.after (act.Fixed d.index d.key)
 
 -- where a step consulted a doubt, one of these has the entry of its repair, unless it is to be left
-abbrev pub IsFixedLater : QueryState → QueryState → List Step → Type 0
+abbrev pub IsFixedLater : QueryState → QueryState → List QueryStep → Type 0
 IsFixedLater (state.Consulting x rest d) (state.Fixing y rest' e) os = e.verdict ≢ Some Leave → HasFixedEntry e os
 IsFixedLater old new os = Unit {0}
 
 -- so is each doubt that the steps consulted
-abbrev pub AreFixed : QueryState → List Step → Type 0
+abbrev pub AreFixed : QueryState → List QueryStep → Type 0
 AreFixed s [] = Unit {0}
 AreFixed s (o ∷ os) = IsFixedLater s o.state os × AreFixed o.state os

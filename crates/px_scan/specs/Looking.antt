@@ -11,7 +11,7 @@ use Rattle.px_scan.specs.declared.keys.Stop.{Stop}
 use Rattle.px_scan.specs.declared.keys.Stop.TheVariants as stop
 use Rattle.px_scan.specs.declared.machine.QueryState.{QueryState}
 use Rattle.px_scan.specs.declared.machine.QueryState.TheVariants as state
-use Rattle.px_scan.specs.Chains.{Step}
+use Rattle.px_scan.specs.Chains.{QueryStep}
 
 -- how many of the keys are in doubt
 abbrev pub doubts_in : List FoundKey → ℕ
@@ -60,21 +60,21 @@ pub record Looks (sound : Type 0) (old : QueryState) (k : Known) (m : ℕ) (new 
   pub left : n + to_look new ≤ m + to_look old + 2 * doubts + refused_to old new
 
 -- each of the steps is one of a query by an index, with no step of others between them
-abbrev pub AreLooking : Type 0 → ℕ → QueryState → List Step → Type 0
+abbrev pub AreLooking : Type 0 → ℕ → QueryState → List QueryStep → Type 0
 AreLooking sound m s [] = Unit {0}
 AreLooking sound m s (o ∷ os) = Looks sound s o.before m o.state o.after o.looked × AreLooking sound o.looked o.state os
 
 -- how many rows were looked at in the end
-abbrev pub looked_after : ℕ → List Step → ℕ
+abbrev pub looked_after : ℕ → List QueryStep → ℕ
 looked_after m [] = m
 looked_after m (o ∷ os) = looked_after o.looked os
 
 -- how many repairs were refused
-abbrev pub refused_in : QueryState → List Step → ℕ
+abbrev pub refused_in : QueryState → List QueryStep → ℕ
 refused_in s [] = 0
 refused_in s (o ∷ os) = refused_to s o.state + refused_in o.state os
 
 -- so many doubts were found in all
-abbrev pub HaveFoundDoubts : Type 0 → QueryState → List Step → ℕ → Type 0
+abbrev pub HaveFoundDoubts : Type 0 → QueryState → List QueryStep → ℕ → Type 0
 HaveFoundDoubts sound s [] n = n ≡ 0
 HaveFoundDoubts sound s (o ∷ os) n = (one : ℕ) × (others : ℕ) × HasFoundDoubts sound s o.before o.after one × HaveFoundDoubts sound o.state os others × (n ≡ one + others)

@@ -16,7 +16,7 @@ ghost use Rattle.px_scan.specs.declared.machine.Scan.{Scan as Scans};
 ghost use Rattle.px_scan.specs.Bounds.{AreSpending, HaveFound, counted_in};
 ghost use Rattle.px_scan.specs.Looking.{AreLooking, HaveFoundDoubts, looked_after, refused_in};
 ghost use Rattle.px_scan.specs.Fixes.{AreFixed, AreKeepingDoubts};
-ghost use Rattle.px_scan.specs.Chains.{AreSteps, AreUnfaulted, IsDoubtSettled, Step, state_after};
+ghost use Rattle.px_scan.specs.Chains.{AreSteps, AreUnfaulted, IsDoubtSettled, QueryStep, query_after};
 ghost use Rattle.px_scan.specs.Turns.{FitsScan, IsBound, IsQueryNew, QuerySoFar, QueryTurns, RanQuery};
 
 use px_calls::Steps;
@@ -32,22 +32,22 @@ pub fn law_turns<S: Steps>()
 
 /// A doubt that is to be consulted is consulted, and then fixed as that left it, where a query comes to its end without a fault.
 pub fn law_doubts<S: Steps>()
-    ensures { (q : Query) → (scn : Option ℕ) → (x : Scans) → (r : Rests) → (d : Doubts) → (k : Known) → (os : List Step) → AreSteps S.sound q scn (query_state.Consulting x r d) k os → AreUnfaulted os → state_after (query_state.Consulting x r d) os ≡ query_state.Over → IsDoubtSettled S.sound x.point d os }
+    ensures { (q : Query) → (scn : Option ℕ) → (x : Scans) → (r : Rests) → (d : Doubts) → (k : Known) → (os : List QueryStep) → AreSteps S.sound q scn (query_state.Consulting x r d) k os → AreUnfaulted os → query_after (query_state.Consulting x r d) os ≡ query_state.Over → IsDoubtSettled S.sound x.point d os }
 {}
 
 /// A query makes at most three steps and three for each key that its looks find, but those of upkeep, those that wait, and repairs that are refused
 /// until upkeep is idle.
 pub fn law_bound<S: Steps>()
-    ensures { (s : States) → (os : List Step) → IsQueryNew s → AreSpending S.sound s os → (n : ℕ) × HaveFound S.sound s os n × (counted_in s os ≤ 3 + 3 * n) }
+    ensures { (s : States) → (os : List QueryStep) → IsQueryNew s → AreSpending S.sound s os → (n : ℕ) × HaveFound S.sound s os n × (counted_in s os ≤ 3 + 3 * n) }
 {}
 
 /// Where nobody else acts, a query by an index looks at no more than two rows of tables for each doubt that its looks find, and one for each repair that
 /// is refused until upkeep is idle.
 pub fn law_looks<S: Steps>()
-    ensures { (m : ℕ) → (s : States) → (os : List Step) → IsQueryNew s → AreLooking S.sound m s os → (d : ℕ) × HaveFoundDoubts S.sound s os d × (looked_after m os ≤ m + 2 * d + refused_in s os) }
+    ensures { (m : ℕ) → (s : States) → (os : List QueryStep) → IsQueryNew s → AreLooking S.sound m s os → (d : ℕ) × HaveFoundDoubts S.sound s os d × (looked_after m os ≤ m + 2 * d + refused_in s os) }
 {}
 
 /// Where nobody else acts and a query comes to its end without a fault, each doubt that it consulted has an entry of its repair, unless it is to be left.
 pub fn law_fixed<S: Steps>()
-    ensures { (q : Query) → (scn : Option ℕ) → (f : Points → IndexVersion → Bool) → (s : States) → (k : Known) → (os : List Step) → IsQueryNew s → AreSteps S.sound q scn s k os → AreKeepingDoubts k f s os → AreUnfaulted os → state_after s os ≡ query_state.Over → AreFixed s os }
+    ensures { (q : Query) → (scn : Option ℕ) → (f : Points → IndexVersion → Bool) → (s : States) → (k : Known) → (os : List QueryStep) → IsQueryNew s → AreSteps S.sound q scn s k os → AreKeepingDoubts k f s os → AreUnfaulted os → query_after s os ≡ query_state.Over → AreFixed s os }
 {}

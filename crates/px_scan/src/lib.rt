@@ -15,6 +15,6 @@ mod run;
 
 pub use answer::{Answer, Placed, QueryFault, QueryTurn};
 pub use asks::{Asks, PathFault};
-pub use laws::{law_bound, law_doubts, law_looks, law_turns};
+pub use laws::{law_bound, law_doubts, law_fixed, law_looks, law_turns};
 pub use machine::{QueryState, Rest, Scan};
 pub use run::{QueryRun, run_query};

@@ -5,6 +5,7 @@ use Rattle.px_calls.specs.Known.{Known, outline}
 use Rattle.px_gather.specs.Query.{Query}
 use Rattle.px_planned.specs.Queries.{query_of}
 use Rattle.px_planned.specs.declared.planned.Planned.{Planned}
+use Rattle.px_planned.proofs.Chosen.{taken_if}
 use Rattle.px_scan.specs.Faults.{QueryFaultIs, QueryFaultSince}
 use Rattle.px_scan.specs.Turns.{IsQueryOutcome, IsQuerySinceThen, QuerySoFar, QueryTurns, opened_by_query}
 use Rattle.px_scan.specs.declared.answer.Answer.{Answer}
@@ -34,6 +35,7 @@ end_is sound p scn own k (Ok x) (Ok s) e h =
         at = h.0.at;
         path = h.0.path;
         chosen = h.0.chosen;
+        taken = taken_if p.asked h.0.point.found h.0.point.stamp h.0.path.by h.0.chosen.taken;
         answer = λ is. select-is k.base k.seen p scn h.0.point h.0.path x.first x.last x.rows.items h.0.chosen (h.0.answer is);
       },
       h.1,

@@ -7,13 +7,15 @@ use Rattle.px_calls.specs.Known.{Known, Ran, outline}
 use Rattle.px_gather.specs.Answers.{IsPointOfQuery}
 use Rattle.px_gather.specs.Query.{IsPathFor}
 use Rattle.px_plan.specs.declared.plan.Asked.{Asked}
-use Rattle.px_planned.specs.Queries.{query_of}
+use Rattle.px_planned.specs.Queries.{IsPathTaken, query_of}
 use Rattle.px_planned.specs.declared.planned.Planned.{Planned}
 use Rattle.px_scan.specs.Faults.{QueryFaultIs, QueryFaultSince}
 use Rattle.px_scan.specs.Turns.{FitsScan, IsAwaitedByQuery, IsQueryGoing, IsQuerySince, OpensAndCloses, QueryEdge, opened_by_query, point_acts}
 use Rattle.px_scan.specs.declared.answer.Answer.{Answer}
 use Rattle.px_scan.specs.declared.answer.QueryFault.{QueryFault}
 use Rattle.px_scan.specs.declared.answer.QueryFault.TheVariants as fault
+use Rattle.px_scan.specs.declared.answer.QueryTurn.{QueryTurn}
+use Rattle.px_scan.specs.declared.answer.QueryTurn.TheVariants as scan
 use Rattle.px_scan.specs.declared.machine.QueryState.{QueryState}
 use Rattle.px_scan.specs.declared.machine.QueryState.TheVariants as state
 use Rattle.px_sorted.specs.Sorting.{answer_of}
@@ -24,13 +26,15 @@ use Rattle.px_select.specs.declared.run.Selected.{Selected}
 
 -- 1. Answers
 
--- The answer of a SELECT, in the keys of a path that was chosen from the definitions in its point. It is right if what was opened is sound
+-- The answer of a SELECT, in the keys of the path that px_plan chooses by the definitions that stood when its point was opened, at the point's stamp. It is
+-- right if what was opened is sound
 pub record IsSelectAnswer (sound : Type 0) (k : Known) (p : Planned) (scn : Option ℕ) (a : Selected) : Type 0 where
   pub point : Point
   pub is_point : IsPointOfQuery k.base k.seen (query_of p) scn point
   pub at : point.found.at ≡ a.first
   pub path : Path
   pub chosen : IsPathFor (query_of p) point path
+  pub taken : IsPathTaken p.asked point.found point.stamp path.by
   pub answer : sound → IsSelectBy k.base k.seen p scn point.found path.by a.first a.last a.shown
 
 -- What a SELECT came to, where `own` is what the seat began, ended, opened, closed and defined for it
@@ -66,6 +70,12 @@ pub record SelectTurns (sound : Type 0) (p : Planned) (scn : Option ℕ) (old : 
   pub told : Told sound p scn (opened_by_query old ++ outline acts) old new k' t
   pub since : (n : ℕ) → IsQuerySince n old k → IsSelectSinceThen n new k' t
   pub edge : QueryEdge sound old k new k'
+
+-- what a step of a SELECT comes to, where that of its query comes to this
+abbrev pub IsTurnOf : Asked → QueryTurn → SelectTurn → Type 0
+IsTurnOf a scan.Stepped t = t ≡ turn.Stepped
+IsTurnOf a (scan.Waiting stamp) t = t ≡ turn.Waiting stamp
+IsTurnOf a (scan.Over end) t = (r : Result Selected QueryFault) × (t ≡ turn.Over r) × IsEnd a end r
 
 -- 3. A whole SELECT
 

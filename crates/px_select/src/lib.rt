@@ -9,5 +9,5 @@
 mod laws;
 mod run;
 
-pub use laws::law_turns;
+pub use laws::{law_doubts, law_turns};
 pub use run::{SelectRun, SelectTurn, Selected, run_select};

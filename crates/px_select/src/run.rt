@@ -1,10 +1,14 @@
 // A SELECT on its way.
-ghost use Rattle.std.specs.Prelude.{◌≡◌};
+ghost use Rattle.std.specs.Prelude.{◌≡◌, true};
 ghost use Rattle.px_calls.specs.Requires.{IsScn};
 ghost use Rattle.px_planned.specs.Queries.{query_of};
+ghost use Rattle.px_scan.specs.declared.answer.QueryTurn.{QueryTurn as Turn};
 ghost use Rattle.px_scan.specs.declared.machine.QueryState.TheVariants as query_state;
+ghost use Rattle.px_scan.specs.Fixes.{KeepsDoubts};
+ghost use Rattle.px_scan.specs.Looking.{IsByIndex, Looks};
+ghost use Rattle.px_scan.specs.Turns as scan;
 ghost use Rattle.px_scan.specs.Turns.{FitsScan, IsBound, IsQueryGoing, IsQueryNew};
-ghost use Rattle.px_select.specs.Selecting.{IsEnd, RanSelect, SelectTurns};
+ghost use Rattle.px_select.specs.Selecting.{IsEnd, IsTurnOf, RanSelect, SelectTurns};
 
 use px_calls::Steps;
 use px_plan::Asked;
@@ -79,6 +83,9 @@ impl SelectRun {
         ensures planned { self.new.scan.query ≡ self.old.scan.query }
         ensures scn { self.new.scan.scn ≡ self.old.scan.scn }
         ensures turns { SelectTurns S.sound self.old.scan.query self.old.scan.scn self.old.scan.state (S.known s.old) self.new.scan.state (S.known s.new) result }
+        ensures scans { (t : Turn) × scan.QueryTurns S.sound (query_of self.old.scan.query) self.old.scan.scn self.old.scan.state (S.known s.old) self.new.scan.state (S.known s.new) t × IsTurnOf self.old.scan.query.asked t result }
+        ensures looks { (S.known s.old).alone ≡ true → IsByIndex self.old.scan.state → Looks S.sound self.old.scan.state (S.known s.old) (S.looked s.old) self.new.scan.state (S.known s.new) (S.looked s.new) }
+        ensures doubts { (S.known s.old).alone ≡ true → S.sound → KeepsDoubts self.old.scan.state (S.known s.old) (S.doubtful s.old) self.new.scan.state (S.known s.new) (S.doubtful s.new) }
         ensures one_call { S.one_call s.old s.new }
     {
         match self.scan.step(s) {

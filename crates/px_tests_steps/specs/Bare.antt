@@ -1,10 +1,11 @@
 -- A server without a table.
-use Rattle.std.specs.Prelude.{true, false, List, [], ◌∷◌, None, pos}
+use Rattle.std.specs.Prelude.{true, false, List, [], ◌∷◌, None, Some, pos}
 use Rattle.px_values.specs.declared.change.Change.{Change}
 use Rattle.px_values.specs.declared.change.What.TheVariants.{Gone}
 use Rattle.px_values.specs.declared.row.Value.TheVariants.{Number}
 use Rattle.px_tables.specs.declared.table.Table.{Table}
 use Rattle.px_trail.specs.Trail.{Base}
+use Rattle.px_calls.specs.declared.query.By.TheVariants as bys
 use Rattle.px_calls.specs.Known.{Known}
 use Rattle.px_gather.specs.Query.{Query}
 
@@ -30,7 +31,7 @@ gone = record { id = record { 0 = 3 }; name = []; columns = []; key = []; region
 
 -- all rows of it
 abbrev pub all_rows : Query
-all_rows = record { table = 3; bound = gone; meets = λ row. true; named = λ row. row; limit = None; joins = λ found stamp. false }
+all_rows = record { table = 3; bound = gone; meets = λ row. true; named = λ row. row; limit = None; joins = λ found stamp. false; takes = λ found stamp. Some bys.Table }
 
 -- one change: the row with key 1 goes
 abbrev pub one_gone : List Change

@@ -5,6 +5,7 @@ use Rattle.px_values.specs.declared.name.TableId.{TableId}
 use Rattle.px_tables.specs.declared.index.Index.{Index}
 use Rattle.px_trail.specs.declared.entry.Entry.{Entry}
 use Rattle.px_trail.specs.Trail.{Base}
+use Rattle.px_calls.specs.declared.query.By.TheVariants as bys
 use Rattle.px_calls.specs.declared.query.Point.{Point}
 use Rattle.px_calls.specs.Known.{Known}
 use Rattle.px_calls.specs.Requires.{index_of_found}
@@ -18,7 +19,7 @@ greatest_scn = 9223372036854775808
 
 -- what asks for each row of the point's table
 abbrev pub every_row : Point → Query
-every_row p = record { table = p.table.0; bound = p.found.table; meets = λ row. true; named = λ row. row; limit = None; joins = λ found stamp. false }
+every_row p = record { table = p.table.0; bound = p.found.table; meets = λ row. true; named = λ row. row; limit = None; joins = λ found stamp. false; takes = λ found stamp. Some bys.Table }
 
 -- the point was opened at its table's last stamp, where each batch is written
 abbrev pub IsReportPoint : Base → List Entry → Point → Type 0
