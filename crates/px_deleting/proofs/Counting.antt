@@ -157,4 +157,4 @@ removed_counted sound p k k' d m acts legal own h =
 pub counted : (sound : Type 0) (p : Planned) (k k' : Known) (d : Deleted) (m : Removed) → RanDelete sound p k k' d → IsLegal k.base k.seen → d.end ≡ Ok m → m.rows ≡ sum_by (λ r. r.rows) d.receipts.items
 counted sound p k k' d m h legal e =
     removed_counted sound p k k' d m h.acts (h.ran.legal legal) (λ a w. ran-made k k' h.acts a h.ran (inl (among_filtered a h.acts w)))
-    (subst (λ (r : Result Removed DeleteFault). IsDeleteEnd sound p (outline h.acts) k' d.receipts.items r) e h.outcome)
+    (subst (λ (r : Result Removed DeleteFault). IsDeleteEnd sound p (length k.seen) (outline h.acts) k' d.receipts.items r) e h.outcome)

@@ -9,6 +9,7 @@ use Rattle.px_values.specs.declared.name.TableId.{TableId}
 use Rattle.px_trail.specs.declared.entry.Act.{Act}
 use Rattle.px_trail.specs.Batches.{rows_of}
 use Rattle.px_trail.specs.Legal.{IsLegal}
+use Rattle.px_trail.specs.Trail.{acts_by}
 use Rattle.px_calls.specs.declared.ticket.Receipt.{Receipt}
 use Rattle.px_calls.specs.Known.{Known, Ran, outline}
 use Rattle.px_calls.specs.Requires.{AreFitting, IsChangeOf}
@@ -43,7 +44,7 @@ use Rattle.px_deleting.specs.declared.machine.DeleteState.TheVariants as state
 use Rattle.px_deleting.specs.declared.machine.Left.{Left}
 use Rattle.px_deleting.specs.Deleting.{AreMade, CanBegin, DeleteTurns, FitsFinding, FitsRemoving, HasFoundRows, HasMadeBatch, IsDeleteEnd, IsDeleteOutcome, IsEndSince, IsRemoving}
 use Rattle.px_deleting.specs.inner.Going.{IsAfterAnswer, IsAfterBatch, IsAfterFound, IsNextRun, IsStopped, IsUnread}
-use Rattle.px_deleting.proofs.Past.{all-later, can-later, fitting-later, fitting-now, found-later, made-more, ran-later, was-now}
+use Rattle.px_deleting.proofs.Past.{all-later, can-later, fitting-later, fitting-now, found-at, found-later, found-now, made-more, ran-later, since-at, since-now, since-ran, was-now}
 
 -- 1. The rows are being found
 
@@ -71,7 +72,7 @@ finds-on sound p k k' run new q s h t = record {
   acts = t.acts;
   ran = t.ran;
   fits = finding_fits sound p k k' run new t.acts q s h t.ran t.fits t.told.0;
-  told = λ own e. (tt, so_far own run.scan.state t.acts e ∙ t.told.1);
+  told = λ m own low e. (tt, so_far own run.scan.state t.acts e ∙ t.told.1);
   since = λ n from. t.since n from;
   edge = t.edge;
 }
@@ -85,7 +86,7 @@ finds-waiting sound p k k' run new stamp q s h t = record {
   acts = t.acts;
   ran = t.ran;
   fits = finding_fits sound p k k' run new t.acts q s h t.ran t.fits t.told.0;
-  told = λ own e. (tt, so_far own run.scan.state t.acts e ∙ t.told.1, awaited p run.scan.query run.scan.scn run.scan.state k' stamp h.planned h.scn t.told.2);
+  told = λ m own low e. (tt, so_far own run.scan.state t.acts e ∙ t.told.1, awaited p run.scan.query run.scan.scn run.scan.state k' stamp h.planned h.scn t.told.2);
   since = λ n from. t.since n from;
   edge = t.edge;
 }
@@ -98,8 +99,8 @@ came_to sound p k k' run acts own r h e o =
     (subst (λ (w : Planned). selecting.IsSelectOutcome sound w None (scan.opened_by_query run.scan.state ++ outline acts) k' r) h.planned
     (subst (λ (n : Option ℕ). selecting.IsSelectOutcome sound run.scan.query n (scan.opened_by_query run.scan.state ++ outline acts) k' r) h.scn o))
 
-unread_end : (sound : Type 0) (p : Planned) (own : List Act) (k : Known) (f : QueryFault) (d : Deleted) → IsUnread f (turn.Over d) → selecting.IsSelectOutcome sound p None own k (Err f) → IsDeleteOutcome sound p own k d
-unread_end sound p own k f d u o = subst (λ (r : Result Removed DeleteFault). IsDeleteEnd sound p own k d.receipts.items r) (sym u.1) (u.0, o)
+unread_end : (sound : Type 0) (p : Planned) (n : ℕ) (own : List Act) (k : Known) (f : QueryFault) (d : Deleted) → IsUnread f (turn.Over d) → selecting.IsSelectOutcome sound p None own k (Err f) → IsDeleteOutcome sound p n own k d
+unread_end sound p n own k f d u o = subst (λ (r : Result Removed DeleteFault). IsDeleteEnd sound p n own k d.receipts.items r) (sym u.1) (u.0, o)
 
 unread_since : (n : ℕ) (k : Known) (f : QueryFault) (d : Deleted) → IsUnread f (turn.Over d) → scan_faults.QueryFaultSince n f k → IsEndSince n d.end k
 unread_since n k f d u h = subst (λ (r : Result Removed DeleteFault). IsEndSince n r k) (sym u.1) h
@@ -113,7 +114,7 @@ finds-none sound p k k' run new f (turn.Over d) h t u = record {
   acts = t.acts;
   ran = t.ran;
   fits = tt;
-  told = λ own e. (refl, unread_end sound p (own ++ outline t.acts) k' f d u (came_to sound p k k' run t.acts own (Err f) h e t.told.1));
+  told = λ m own low e. (refl, unread_end sound p m (own ++ outline t.acts) k' f d u (came_to sound p k k' run t.acts own (Err f) h e t.told.1));
   since = λ n from. unread_since n k' f d u (t.since n from);
   edge = tt;
 }
@@ -123,24 +124,22 @@ finds-none sound p k k' run new f (turn.Over d) h t u = record {
 memory_is : (sound : Type 0) (p : Planned) (own : List Act) (k : Known) (a : Selected) → selecting.IsSelectOutcome sound p None own k (Ok a) → selecting.IsSelectOutcome sound p None own k (Err unread.Memory)
 memory_is sound p own k a h = (tt, inr (_, _, h.1))
 
-found_now : (sound : Type 0) (p : Planned) (own : List Act) (k : Known) (a : Selected) (cs : List Change) → selecting.IsSelectOutcome sound p None own k (Ok a) → AreRemovals a.shown.rows cs → HasFoundRows sound p k a.first own cs
-found_now sound p own k a cs h r = record { past = k; was = was-now k; answer = a; opened = refl; outcome = h; removals = r }
-
 -- all of none
-none_end : (sound : Type 0) (p : Planned) (own : List Act) (k : Known) (a : Selected) (cs : List Change) (d : Deleted) → selecting.IsSelectOutcome sound p None own k (Ok a) → AreRemovals a.shown.rows cs → cs ≡ []
-    → d.receipts.items ≡ [] → d.end ≡ Ok (record { rows = 0; first = a.first }) → IsDeleteOutcome sound p own k d
-none_end sound p own k a cs d h r none rs e =
-    subst (λ (l : List Receipt). IsDeleteEnd sound p own k l d.end) (sym rs)
-    (subst (λ (w : Result Removed DeleteFault). IsDeleteEnd sound p own k [] w) (sym e) (record {
+none_end : (sound : Type 0) (p : Planned) (n : ℕ) (own : List Act) (k : Known) (a : Selected) (cs : List Change) (d : Deleted) → selecting.IsSelectOutcome sound p None own k (Ok a) → AreRemovals a.shown.rows cs → cs ≡ []
+    → d.receipts.items ≡ [] → d.end ≡ Ok (record { rows = 0; first = a.first }) → IsDeleteOutcome sound p n own k d
+none_end sound p n own k a cs d h r none rs e =
+    subst (λ (l : List Receipt). IsDeleteEnd sound p n own k l d.end) (sym rs)
+    (subst (λ (w : Result Removed DeleteFault). IsDeleteEnd sound p n own k [] w) (sym e) (record {
       changes = cs;
       parts = [];
       finding = own;
       making = [];
-      found = found_now sound p own k a cs h r;
+      found = found-now sound p own k a a.first cs refl h r;
       made = refl;
       split = sym none;
       rows = sym (ap length none);
       own_is = sym (append-nil own);
+      found_first = since-now sound p own k a a.first cs refl h r;
     }))
 
 -- the run of the next part
@@ -185,7 +184,7 @@ found-then sound p k k' run ended a cs (state.Removing next left) turn.Stepped h
       ran = t.ran;
       fits = next_fits p k' p.table.id cs next left refl n can.legal (fitting-now k' p cs can f) r.ordered
           (subst (λ (rs : List Receipt). length (drop 1000 cs) + 1000 * (length rs + 1) ≤ 1000 * vec_capacity left.receipts) (sym w.1) (first_room cs (vec_capacity left.receipts) n.some w.2));
-      told = λ own e. (
+      told = λ m own low e. (
         tt,
         (let o = came_to sound p k k' run t.acts own (Ok a) h e t.told.1 in record {
           changes = cs;
@@ -193,7 +192,7 @@ found-then sound p k k' run ended a cs (state.Removing next left) turn.Stepped h
           rest = cs;
           finding = own ++ outline t.acts;
           making = [];
-          found = subst (λ (m : ℕ). HasFoundRows sound p k' m (own ++ outline t.acts) cs) (sym w.4) (found_now sound p (own ++ outline t.acts) k' a cs o r);
+          found = found-now sound p (own ++ outline t.acts) k' a left.first cs (sym w.4) o r;
           made = subst (λ (rs : List Receipt). AreMade k' p.table.id [] rs []) (sym w.1) refl;
           split = refl;
           some = n.some;
@@ -201,6 +200,7 @@ found-then sound p k k' run ended a cs (state.Removing next left) turn.Stepped h
           behind = n.behind;
           rows = w.3;
           own_is = sym (append-nil (own ++ outline t.acts)) ∙ ap (λ (l : List Act). (own ++ outline t.acts) ++ l) (sym (begun_none p.table.id next.changes next.state n.beginning));
+          found_first = since-now sound p (own ++ outline t.acts) k' a left.first cs (sym w.4) o r ∙ sym (begun_none p.table.id next.changes next.state n.beginning);
         }),
       );
       since = λ m from. (let low = t.since m from in let o = t.told.1 in (subst (λ (x : ℕ). m ≤ x) (sym w.4) low, since_begin m next.state k' n.beginning (let a1 = o.2 in let a2 = o.3 in omega arith)));
@@ -210,7 +210,7 @@ found-then sound p k k' run ended a cs state.Over (turn.Over d) h t r f (rs, inl
   acts = t.acts;
   ran = t.ran;
   fits = tt;
-  told = λ own b. (refl, none_end sound p (own ++ outline t.acts) k' a cs d (came_to sound p k k' run t.acts own (Ok a) h b t.told.1) r none rs e);
+  told = λ n own low b. (refl, none_end sound p n (own ++ outline t.acts) k' a cs d (came_to sound p k k' run t.acts own (Ok a) h b t.told.1) r none rs e);
   since = λ n from. subst (λ (x : Result Removed DeleteFault). IsEndSince n x k') (sym e) (t.since n from);
   edge = tt;
 }
@@ -218,7 +218,7 @@ found-then sound p k k' run ended a cs state.Over (turn.Over d) h t r f (rs, inr
   acts = t.acts;
   ran = t.ran;
   fits = tt;
-  told = λ own b. (refl, unread_end sound p (own ++ outline t.acts) k' unread.Memory d (rs, e) (memory_is sound p (own ++ outline t.acts) k' a (came_to sound p k k' run t.acts own (Ok a) h b t.told.1)));
+  told = λ n own low b. (refl, unread_end sound p n (own ++ outline t.acts) k' unread.Memory d (rs, e) (memory_is sound p (own ++ outline t.acts) k' a (came_to sound p k k' run t.acts own (Ok a) h b t.told.1)));
   since = λ n from. unread_since n k' unread.Memory d (rs, e) tt;
   edge = tt;
 }
@@ -233,7 +233,7 @@ answered sound p k k' run ended a new (turn.Over d) h s (inr w) = subst (λ (x :
   acts = s.acts;
   ran = s.ran;
   fits = tt;
-  told = λ own b. (refl, unread_end sound p (own ++ outline s.acts) k' unread.Memory d w.1 (memory_is sound p (own ++ outline s.acts) k' a (came_to sound p k k' run s.acts own (Ok a) h b s.told.1)));
+  told = λ n own low b. (refl, unread_end sound p n (own ++ outline s.acts) k' unread.Memory d w.1 (memory_is sound p (own ++ outline s.acts) k' a (came_to sound p k k' run s.acts own (Ok a) h b s.told.1)));
   since = λ n from. unread_since n k' unread.Memory d w.1 tt;
   edge = tt;
 })
@@ -244,6 +244,11 @@ answered sound p k k' run ended a new (turn.Over d) h s (inr w) = subst (λ (x :
 behind : (own finding making began more : List Act) → own ≡ finding ++ (making ++ began) → own ++ more ≡ finding ++ (making ++ (began ++ more))
 behind own finding making began more e =
     ap (λ (l : List Act). l ++ more) e ∙ (append_assoc finding (making ++ began) more ∙ ap (λ (l : List Act). finding ++ l) (append_assoc making began more))
+
+-- and so does what it did since the rows were found
+since_found : (sound : Type 0) (p : Planned) (k k' : Known) (first : ℕ) (finding : List Act) (cs : List Change) (acts making began : List Act) (r : Ran k k' acts) (f : HasFoundRows sound p k first finding cs) → outline (acts_by k.seat f.was.more) ≡ making ++ began
+    → outline (acts_by k'.seat (found-later sound p k k' first finding cs (ran-later k k' acts r) f).was.more) ≡ making ++ (began ++ outline acts)
+since_found sound p k k' first finding cs acts making began r f e = since-ran sound p k k' first finding cs acts r f ∙ (ap (λ (l : List Act). l ++ outline acts) e ∙ append_assoc making began (outline acts))
 
 removing_fits : (sound : Type 0) (p : Planned) (k k' : Known) (run new : BatchRun) (left : Left) (acts : List Act) → new.table ≡ run.table → new.changes ≡ run.changes → FitsRemoving p run left k → Ran k k' acts
     → batch.FitsBatch run.table run.changes new.state k' → batch.IsBatchGoing new.state → FitsRemoving p new left k'
@@ -282,6 +287,7 @@ removing_done sound p k k' run new left acts own e c r goes d =
       behind = d.behind;
       rows = d.rows;
       own_is = behind own d.finding d.making (batch.begun_by_batch p.table.id run.changes run.state) (outline acts) d.own_is ∙ ap (λ (l : List Act). d.finding ++ (d.making ++ l)) here;
+      found_first = since_found sound p k k' left.first d.finding d.changes acts d.making (batch.begun_by_batch p.table.id run.changes run.state) r d.found d.found_first ∙ ap (λ (l : List Act). d.making ++ l) here;
     }
 
 pub removes-on : (sound : Type 0) (p : Planned) (k k' : Known) (run new : BatchRun) (left : Left) → new.table ≡ run.table → new.changes ≡ run.changes → FitsRemoving p run left k
@@ -290,7 +296,7 @@ removes-on sound p k k' run new left e c h t = record {
   acts = t.acts;
   ran = t.ran;
   fits = removing_fits sound p k k' run new left t.acts e c h t.ran t.fits t.told.0;
-  told = λ own d. (tt, removing_done sound p k k' run new left t.acts own h.table c t.ran t.told.1 d);
+  told = λ n own low d. (tt, removing_done sound p k k' run new left t.acts own h.table c t.ran t.told.1 d);
   since = λ n from. (from.0, t.since n from.1);
   edge = tt;
 }
@@ -301,7 +307,7 @@ removes-waiting sound p k k' run new left stamp e c h t = record {
   acts = t.acts;
   ran = t.ran;
   fits = removing_fits sound p k k' run new left t.acts e c h t.ran t.fits t.told.0;
-  told = λ own d. (tt, removing_done sound p k k' run new left t.acts own h.table c t.ran t.told.1 d, t.told.2);
+  told = λ n own low d. (tt, removing_done sound p k k' run new left t.acts own h.table c t.ran t.told.1 d, t.told.2);
   since = λ n from. (from.0, t.since n from.1);
   edge = tt;
 }
@@ -331,6 +337,7 @@ record OneMore (sound : Type 0) (p : Planned) (own : List Act) (k : Known) (left
   split : IsSplit changes parts left.changes.items
   rows : left.rows ≡ length changes
   own_is : own ≡ finding ++ making
+  found_first : outline (acts_by k.seat found.was.more) ≡ making
 
 one_more : (sound : Type 0) (p : Planned) (k k' : Known) (run : BatchRun) (left : Left) (acts own : List Act) (r : Receipt) → Ran k k' acts → batch.HasEndedBatch p.table.id run.changes (mine p run acts) k' r → IsRemoving sound p own k run left
     → OneMore sound p (own ++ outline acts) k' left r
@@ -347,14 +354,15 @@ one_more sound p k k' run left acts own r ran ended d =
           (subst (λ (l : List Change). IsSplit d.changes (d.parts ++ take 1000 d.rest ∷ []) l) (sym d.behind) (split-more d.changes d.parts d.rest d.split d.some));
       rows = d.rows;
       own_is = behind own d.finding d.making (batch.begun_by_batch p.table.id run.changes run.state) (outline acts) d.own_is;
+      found_first = since_found sound p k k' left.first d.finding d.changes acts d.making (batch.begun_by_batch p.table.id run.changes run.state) ran d.found d.found_first;
     }
 
 -- nothing is left
-all_removed : (sound : Type 0) (p : Planned) (own : List Act) (k : Known) (left : Left) (r : Receipt) (d : Deleted) → OneMore sound p own k left r → left.changes.items ≡ [] → d.receipts.items ≡ left.receipts.items ++ r ∷ []
-    → d.end ≡ Ok (record { rows = left.rows; first = left.first }) → IsDeleteOutcome sound p own k d
-all_removed sound p own k left r d o none rs e =
-    subst (λ (l : List Receipt). IsDeleteEnd sound p own k l d.end) (sym rs)
-    (subst (λ (w : Result Removed DeleteFault). IsDeleteEnd sound p own k (left.receipts.items ++ r ∷ []) w) (sym e) (record {
+all_removed : (sound : Type 0) (p : Planned) (m : ℕ) (own : List Act) (k : Known) (left : Left) (r : Receipt) (d : Deleted) → OneMore sound p own k left r → left.changes.items ≡ [] → d.receipts.items ≡ left.receipts.items ++ r ∷ []
+    → d.end ≡ Ok (record { rows = left.rows; first = left.first }) → IsDeleteOutcome sound p m own k d
+all_removed sound p m own k left r d o none rs e =
+    subst (λ (l : List Receipt). IsDeleteEnd sound p m own k l d.end) (sym rs)
+    (subst (λ (w : Result Removed DeleteFault). IsDeleteEnd sound p m own k (left.receipts.items ++ r ∷ []) w) (sym e) (record {
       changes = o.changes;
       parts = o.parts;
       finding = o.finding;
@@ -364,28 +372,33 @@ all_removed sound p own k left r d o none rs e =
       split = subst (λ (l : List Change). IsSplit o.changes o.parts l) none o.split;
       rows = o.rows;
       own_is = o.own_is;
+      found_first = o.found_first;
     }))
 
 -- no memory was found for the next part
-no_memory : (sound : Type 0) (p : Planned) (own : List Act) (k : Known) (left : Left) (r : Receipt) (d : Deleted) → OneMore sound p own k left r → left.changes.items ≢ [] → d.receipts.items ≡ left.receipts.items ++ r ∷ []
-    → d.end ≡ Err (fault.Unmade unmade.Memory) → IsDeleteOutcome sound p own k d
-no_memory sound p own k left r d o some rs e =
-    subst (λ (l : List Receipt). IsDeleteEnd sound p own k l d.end) (sym rs)
-    (subst (λ (w : Result Removed DeleteFault). IsDeleteEnd sound p own k (left.receipts.items ++ r ∷ []) w) (sym e) (record {
-      changes = o.changes;
-      parts = o.parts;
-      rest = left.changes.items;
-      first = left.first;
-      finding = o.finding;
-      making = o.making;
-      stopping = [];
-      found = o.found;
-      made = o.made;
-      split = o.split;
-      some = some;
-      outcome = (tt, inl refl);
-      own_is = o.own_is ∙ ap (λ (l : List Act). o.finding ++ l) (sym (append-nil o.making));
-    }))
+no_memory : (sound : Type 0) (p : Planned) (m : ℕ) (own : List Act) (k : Known) (left : Left) (r : Receipt) (d : Deleted) → m ≤ left.first → OneMore sound p own k left r → left.changes.items ≢ [] → d.receipts.items ≡ left.receipts.items ++ r ∷ []
+    → d.end ≡ Err (fault.Unmade unmade.Memory) → IsDeleteOutcome sound p m own k d
+no_memory sound p m own k left r d low o some rs e =
+    subst (λ (l : List Receipt). IsDeleteEnd sound p m own k l d.end) (sym rs)
+    (subst (λ (w : Result Removed DeleteFault). IsDeleteEnd sound p m own k (left.receipts.items ++ r ∷ []) w) (sym e) (
+      record {
+        changes = o.changes;
+        parts = o.parts;
+        rest = left.changes.items;
+        first = left.first;
+        finding = o.finding;
+        making = o.making;
+        stopping = [];
+        found = o.found;
+        made = o.made;
+        split = o.split;
+        some = some;
+        outcome = (tt, inl refl);
+        own_is = o.own_is ∙ ap (λ (l : List Act). o.finding ++ l) (sym (append-nil o.making));
+        found_first = o.found_first ∙ sym (append-nil o.making);
+      },
+      low,
+    ))
 
 -- the next part is under way
 going_on : (sound : Type 0) (p : Planned) (own : List Act) (k : Known) (left new : Left) (next : BatchRun) (r : Receipt) → OneMore sound p own k left r → IsNextRun left.table left.changes.items next new
@@ -396,7 +409,7 @@ going_on sound p own k left new next r o n rs rows first = record {
   rest = left.changes.items;
   finding = o.finding;
   making = o.making;
-  found = subst (λ (m : ℕ). HasFoundRows sound p k m o.finding o.changes) (sym first) o.found;
+  found = found-at sound p k left.first new.first o.finding o.changes (sym first) o.found;
   made = subst (λ (l : List Receipt). AreMade k p.table.id o.parts l o.making) (sym rs) o.made;
   split = o.split;
   some = n.some;
@@ -404,6 +417,7 @@ going_on sound p own k left new next r o n rs rows first = record {
   behind = n.behind;
   rows = rows ∙ o.rows;
   own_is = o.own_is ∙ ap (λ (l : List Act). o.finding ++ l) (sym (append-nil o.making) ∙ ap (λ (l : List Act). o.making ++ l) (sym (begun_none p.table.id next.changes next.state n.beginning)));
+  found_first = since-at sound p k left.first new.first o.finding o.changes (sym first) o.found ∙ (o.found_first ∙ (sym (append-nil o.making) ∙ ap (λ (l : List Act). o.making ++ l) (sym (begun_none p.table.id next.changes next.state n.beginning))));
 }
 
 more_length : (xs : List Receipt) (r : Receipt) → length (xs ++ r ∷ []) ≡ length xs + 1
@@ -431,7 +445,7 @@ removes-then sound p k k' run left ended r (state.Removing next new) turn.Steppe
       acts = t.acts;
       ran = t.ran;
       fits = next_fits p k' left.table left.changes.items next new h.left_table w.0 legal (fitting-later k k' p.table.id.0 left.changes.items (ran-later k k' t.acts t.ran) legal h.fitting) h.ordered (room_for left new r w.0.some h.room w.1 w.2);
-      told = λ own d. (tt, going_on sound p (own ++ outline t.acts) k' left new next r (one_more sound p k k' run left t.acts own r t.ran (outcome_is sound p k' run t.acts (Ok r) h.table t.told.1) d) w.0 w.1 w.3 w.4);
+      told = λ m own low d. (tt, going_on sound p (own ++ outline t.acts) k' left new next r (one_more sound p k k' run left t.acts own r t.ran (outcome_is sound p k' run t.acts (Ok r) h.table t.told.1) d) w.0 w.1 w.3 w.4);
       since = λ n from. (subst (λ (x : ℕ). n ≤ x) (sym w.4) from.0, since_begin n next.state k' w.0.beginning (ended_at sound n run.table run.changes _ k' r t.told.1 (t.since n from.1)));
       edge = tt;
     }
@@ -439,7 +453,7 @@ removes-then sound p k k' run left ended r state.Over (turn.Over d) h t (rs, inl
   acts = t.acts;
   ran = t.ran;
   fits = tt;
-  told = λ own b. (refl, all_removed sound p (own ++ outline t.acts) k' left r d (one_more sound p k k' run left t.acts own r t.ran (outcome_is sound p k' run t.acts (Ok r) h.table t.told.1) b) none rs e);
+  told = λ m own low b. (refl, all_removed sound p m (own ++ outline t.acts) k' left r d (one_more sound p k k' run left t.acts own r t.ran (outcome_is sound p k' run t.acts (Ok r) h.table t.told.1) b) none rs e);
   since = λ n from. subst (λ (x : Result Removed DeleteFault). IsEndSince n x k') (sym e) from.0;
   edge = tt;
 }
@@ -447,33 +461,37 @@ removes-then sound p k k' run left ended r state.Over (turn.Over d) h t (rs, inr
   acts = t.acts;
   ran = t.ran;
   fits = tt;
-  told = λ own b. (refl, no_memory sound p (own ++ outline t.acts) k' left r d (one_more sound p k k' run left t.acts own r t.ran (outcome_is sound p k' run t.acts (Ok r) h.table t.told.1) b) some rs e);
+  told = λ m own low b. (refl, no_memory sound p m (own ++ outline t.acts) k' left r d low.0 (one_more sound p k k' run left t.acts own r t.ran (outcome_is sound p k' run t.acts (Ok r) h.table t.told.1) b) some rs e);
   since = λ n from. subst (λ (x : Result Removed DeleteFault). IsEndSince n x k') (sym e) tt;
   edge = tt;
 }
 removes-then sound p k k' run left ended r new t' h t w = absurd w
 
 -- a batch isn't made, and none behind it
-stopped_end : (sound : Type 0) (p : Planned) (k k' : Known) (run : BatchRun) (left : Left) (acts own : List Act) (f : BatchFault) (d : Deleted) → Ran k k' acts → batch.IsBatchOutcome sound p.table.id run.changes (mine p run acts) k' (Err f)
-    → IsRemoving sound p own k run left → IsStopped left.receipts.items f (turn.Over d) → IsDeleteOutcome sound p (own ++ outline acts) k' d
-stopped_end sound p k k' run left acts own f d ran o b s =
+stopped_end : (sound : Type 0) (p : Planned) (m : ℕ) (k k' : Known) (run : BatchRun) (left : Left) (acts own : List Act) (f : BatchFault) (d : Deleted) → m ≤ left.first → Ran k k' acts → batch.IsBatchOutcome sound p.table.id run.changes (mine p run acts) k' (Err f)
+    → IsRemoving sound p own k run left → IsStopped left.receipts.items f (turn.Over d) → IsDeleteOutcome sound p m (own ++ outline acts) k' d
+stopped_end sound p m k k' run left acts own f d low ran o b s =
     let later = ran-later k k' acts ran in
-    subst (λ (l : List Receipt). IsDeleteEnd sound p (own ++ outline acts) k' l d.end) (sym s.0)
-    (subst (λ (w : Result Removed DeleteFault). IsDeleteEnd sound p (own ++ outline acts) k' left.receipts.items w) (sym s.1) (record {
-      changes = b.changes;
-      parts = b.parts;
-      rest = b.rest;
-      first = left.first;
-      finding = b.finding;
-      making = b.making;
-      stopping = mine p run acts;
-      found = found-later sound p k k' left.first b.finding b.changes later b.found;
-      made = all-later k k' p.table.id b.parts left.receipts.items b.making later b.made;
-      split = b.split;
-      some = b.some;
-      outcome = subst (λ (l : List Change). batch.IsBatchOutcome sound p.table.id l (mine p run acts) k' (Err f)) b.part o;
-      own_is = behind own b.finding b.making (batch.begun_by_batch p.table.id run.changes run.state) (outline acts) b.own_is;
-    }))
+    subst (λ (l : List Receipt). IsDeleteEnd sound p m (own ++ outline acts) k' l d.end) (sym s.0)
+    (subst (λ (w : Result Removed DeleteFault). IsDeleteEnd sound p m (own ++ outline acts) k' left.receipts.items w) (sym s.1) (
+      record {
+        changes = b.changes;
+        parts = b.parts;
+        rest = b.rest;
+        first = left.first;
+        finding = b.finding;
+        making = b.making;
+        stopping = mine p run acts;
+        found = found-later sound p k k' left.first b.finding b.changes later b.found;
+        made = all-later k k' p.table.id b.parts left.receipts.items b.making later b.made;
+        split = b.split;
+        some = b.some;
+        outcome = subst (λ (l : List Change). batch.IsBatchOutcome sound p.table.id l (mine p run acts) k' (Err f)) b.part o;
+        own_is = behind own b.finding b.making (batch.begun_by_batch p.table.id run.changes run.state) (outline acts) b.own_is;
+        found_first = since_found sound p k k' left.first b.finding b.changes acts b.making (batch.begun_by_batch p.table.id run.changes run.state) ran b.found b.found_first;
+      },
+      low,
+    ))
 
 pub removes-no-more : (sound : Type 0) (p : Planned) (k k' : Known) (run : BatchRun) (left : Left) (ended : BatchState) (f : BatchFault) (t : DeleteTurn) → FitsRemoving p run left k
     → batch.BatchTurns sound run.table run.changes run.state k ended k' (came.Over (Err f)) → IsStopped left.receipts.items f t → DeleteTurns sound p (state.Removing run left) k state.Over k' t
@@ -483,7 +501,7 @@ removes-no-more sound p k k' run left ended f (turn.Over d) h t s = record {
   acts = t.acts;
   ran = t.ran;
   fits = tt;
-  told = λ own b. (refl, stopped_end sound p k k' run left t.acts own f d t.ran (outcome_is sound p k' run t.acts (Err f) h.table t.told.1) b s);
+  told = λ m own low b. (refl, stopped_end sound p m k k' run left t.acts own f d low.0 t.ran (outcome_is sound p k' run t.acts (Err f) h.table t.told.1) b s);
   since = λ n from. subst (λ (x : Result Removed DeleteFault). IsEndSince n x k') (sym s.1) (t.since n from.1);
   edge = tt;
 }

@@ -1,5 +1,5 @@
 -- What was done stays so while entries come.
-use Rattle.std.proofs.Common.{ℕ, ◌≡◌, List, [], ◌∷◌, ◌++◌, refl, sym, ap, subst, ◌∙◌, arith, append_assoc}
+use Rattle.std.proofs.Common.{ℕ, ◌≡◌, None, Ok, List, [], ◌∷◌, ◌++◌, refl, sym, ap, subst, ◌∙◌, arith, append_assoc}
 use Rattle.std.proofs.lemmas.List.{append-nil}
 use Rattle.std.specs.List.{AllByRecursion}
 use Rattle.px_values.specs.declared.change.Change.{Change}
@@ -8,12 +8,16 @@ use Rattle.px_tables.specs.declared.table.Table.{Table}
 use Rattle.px_trail.specs.declared.entry.Act.{Act}
 use Rattle.px_trail.specs.declared.entry.Entry.{Entry}
 use Rattle.px_trail.specs.Legal.{IsLegal}
-use Rattle.px_trail.specs.Trail.{Base, catalogue_of, table_of}
+use Rattle.px_trail.specs.Trail.{Base, acts_by, catalogue_of, table_of}
 use Rattle.px_calls.specs.declared.ticket.Receipt.{Receipt}
-use Rattle.px_calls.specs.Known.{Known, Ran, TimePasses}
+use Rattle.px_calls.specs.Known.{Known, Ran, TimePasses, outline}
 use Rattle.px_calls.specs.Requires.{AreFitting, IsChangeOf}
+use Rattle.px_calls.proofs.Runs.{acts_by-append, outline-append}
 use Rattle.px_calls.proofs.Stays.{drawn-stays, grown-fits, table-was}
 use Rattle.px_planned.specs.declared.planned.Planned.{Planned}
+use Rattle.px_select.specs.Selecting.{IsSelectOutcome}
+use Rattle.px_select.specs.declared.run.Selected.{Selected}
+use Rattle.px_removals.specs.Removals.{AreRemovals}
 use Rattle.px_deleting.specs.Deleting.{AreMade, CanBegin, HasFoundRows, HasMadeBatch, WasKnown}
 
 -- 1. Moments
@@ -46,6 +50,42 @@ was-later past k k' h w = record {
 
 pub found-later : (sound : Type 0) (p : Planned) (k k' : Known) (first : ℕ) (acts : List Act) (cs : List Change) → Later k k' → HasFoundRows sound p k first acts cs → HasFoundRows sound p k' first acts cs
 found-later sound p k k' first acts cs h f = record { past = f.past; was = was-later f.past k k' h f.was; answer = f.answer; opened = f.opened; outcome = f.outcome; removals = f.removals }
+
+-- the place at which the point was opened, by another name
+pub found-at : (sound : Type 0) (p : Planned) (k : Known) (first first' : ℕ) (acts : List Act) (cs : List Change) → first ≡ first' → HasFoundRows sound p k first acts cs → HasFoundRows sound p k first' acts cs
+found-at sound p k first first' acts cs e f = record { past = f.past; was = f.was; answer = f.answer; opened = f.opened ∙ e; outcome = f.outcome; removals = f.removals }
+
+pub found-now : (sound : Type 0) (p : Planned) (own : List Act) (k : Known) (a : Selected) (first : ℕ) (cs : List Change) → a.first ≡ first → IsSelectOutcome sound p None own k (Ok a) → AreRemovals a.shown.rows cs → HasFoundRows sound p k first own cs
+found-now sound p own k a first cs e h r = record { past = k; was = was-now k; answer = a; opened = e; outcome = h; removals = r }
+
+-- what the seat did since then: the same, and what came later
+pub since-later : (sound : Type 0) (p : Planned) (k k' : Known) (first : ℕ) (acts : List Act) (cs : List Change) (h : Later k k') (f : HasFoundRows sound p k first acts cs) → (found-later sound p k k' first acts cs h f).was.more ≡ f.was.more ++ h.more
+unfolding found-later was-later
+since-later sound p k k' first acts cs h f = refl
+
+did_more : (seat seat' : ℕ) (more added : List Entry) (acts : List Act) → seat' ≡ seat → acts_by seat added ≡ acts → outline (acts_by seat' (more ++ added)) ≡ outline (acts_by seat more) ++ outline acts
+did_more seat seat' more added acts e own =
+    ap (λ (n : ℕ). outline (acts_by n (more ++ added))) e ∙ (ap outline (acts_by-append seat more added ∙ ap (λ (l : List Act). acts_by seat more ++ l) own) ∙ outline-append (acts_by seat more) acts)
+
+pub since-ran : (sound : Type 0) (p : Planned) (k k' : Known) (first : ℕ) (found : List Act) (cs : List Change) (acts : List Act) (r : Ran k k' acts) (f : HasFoundRows sound p k first found cs)
+    → outline (acts_by k'.seat (found-later sound p k k' first found cs (ran-later k k' acts r) f).was.more) ≡ outline (acts_by k.seat f.was.more) ++ outline acts
+unfolding found-later was-later ran-later
+since-ran sound p k k' first found cs acts r f = did_more k.seat k'.seat f.was.more r.added acts r.seat r.own
+
+pub since-passed : (sound : Type 0) (p : Planned) (k k' : Known) (first : ℕ) (found : List Act) (cs : List Change) (h : TimePasses k k') (f : HasFoundRows sound p k first found cs)
+    → outline (acts_by k'.seat (found-later sound p k k' first found cs (passes-later k k' h) f).was.more) ≡ outline (acts_by k.seat f.was.more)
+unfolding found-later was-later passes-later
+since-passed sound p k k' first found cs h f = did_more k.seat k'.seat f.was.more h.others [] h.seat h.apart ∙ append-nil (outline (acts_by k.seat f.was.more))
+
+pub since-at : (sound : Type 0) (p : Planned) (k : Known) (first first' : ℕ) (acts : List Act) (cs : List Change) (e : first ≡ first') (f : HasFoundRows sound p k first acts cs)
+    → outline (acts_by k.seat (found-at sound p k first first' acts cs e f).was.more) ≡ outline (acts_by k.seat f.was.more)
+unfolding found-at
+since-at sound p k first first' acts cs e f = refl
+
+pub since-now : (sound : Type 0) (p : Planned) (own : List Act) (k : Known) (a : Selected) (first : ℕ) (cs : List Change) (e : a.first ≡ first) (h : IsSelectOutcome sound p None own k (Ok a)) (r : AreRemovals a.shown.rows cs)
+    → outline (acts_by k.seat (found-now sound p own k a first cs e h r).was.more) ≡ []
+unfolding found-now was-now acts_by
+since-now sound p own k a first cs e h r = refl
 
 pub made-later : (k k' : Known) (t : TableId) (cs : List Change) (acts : List Act) (r : Receipt) → Later k k' → HasMadeBatch k t cs acts r → HasMadeBatch k' t cs acts r
 made-later k k' t cs acts r h m = record { past = m.past; was = was-later m.past k k' h m.was; ended = m.ended }

@@ -1,5 +1,5 @@
 -- Between the steps of a DELETE, and the whole of it.
-use Rattle.std.proofs.Common.{ℕ, Option, None, List, ◌++◌, length, sym, subst}
+use Rattle.std.proofs.Common.{ℕ, ◌∙◌, Option, None, List, ◌++◌, length, sym, subst}
 use Rattle.px_values.specs.declared.change.Change.{Change}
 use Rattle.px_tables.specs.declared.table.Table.{Table}
 use Rattle.px_expr.specs.declared.bound.Bound.{Bound}
@@ -18,7 +18,7 @@ use Rattle.px_deleting.specs.declared.deleted.Deleted.{Deleted}
 use Rattle.px_deleting.specs.declared.machine.DeleteState.{DeleteState}
 use Rattle.px_deleting.specs.declared.machine.DeleteState.TheVariants as state
 use Rattle.px_deleting.specs.Deleting.{AreCurrent, CanBegin, DeleteTurns, FitsDelete, HasDone, HasFoundRows, IsDeleteNew, IsDeleteOutcome, RanDelete, SoFar}
-use Rattle.px_deleting.proofs.Past.{all-later, can-later, fitting-later, found-later, passes-later}
+use Rattle.px_deleting.proofs.Past.{all-later, can-later, fitting-later, found-later, passes-later, since-passed}
 
 -- 1. Between two steps
 
@@ -62,6 +62,7 @@ done-kept sound p own (state.Removing run left) k k' h d =
       behind = d.behind;
       rows = d.rows;
       own_is = d.own_is;
+      found_first = since-passed sound p k k' left.first d.finding d.changes h d.found ∙ d.found_first;
     }
 done-kept sound p own state.Over k k' h d = tt
 
@@ -85,7 +86,7 @@ begins sound p state.Over k h c = absurd h
 
 pub steps-on : (sound : Type 0) (p : Planned) (k0 k k' : Known) (old new : DeleteState) → SoFar sound p k0 k old → DeleteTurns sound p old k new k' turn.Stepped → SoFar sound p k0 k' new
 steps-on sound p k0 k k' old new h t =
-    let told = t.told (outline h.acts) h.done in
+    let told = t.told (length k0.seen) (outline h.acts) h.since h.done in
     record {
       acts = h.acts ++ t.acts;
       ran = ran-then k0 k k' h.acts t.acts h.ran t.ran;
@@ -97,7 +98,7 @@ steps-on sound p k0 k k' old new h t =
 
 pub waits-on : (sound : Type 0) (p : Planned) (k0 k k' : Known) (old new : DeleteState) (stamp : ℕ) → SoFar sound p k0 k old → DeleteTurns sound p old k new k' (turn.Waiting stamp) → SoFar sound p k0 k' new
 waits-on sound p k0 k k' old new stamp h t =
-    let told = t.told (outline h.acts) h.done in
+    let told = t.told (length k0.seen) (outline h.acts) h.since h.done in
     record {
       acts = h.acts ++ t.acts;
       ran = ran-then k0 k k' h.acts t.acts h.ran t.ran;
@@ -109,11 +110,11 @@ waits-on sound p k0 k k' old new stamp h t =
 
 pub ends-as : (sound : Type 0) (p : Planned) (k0 k k' : Known) (old new : DeleteState) (d : Deleted) → SoFar sound p k0 k old → DeleteTurns sound p old k new k' (turn.Over d) → RanDelete sound p k0 k' d
 ends-as sound p k0 k k' old new d h t =
-    let told = t.told (outline h.acts) h.done in
+    let told = t.told (length k0.seen) (outline h.acts) h.since h.done in
     record {
       acts = h.acts ++ t.acts;
       ran = ran-then k0 k k' h.acts t.acts h.ran t.ran;
-      outcome = subst (λ (l : List Act). IsDeleteOutcome sound p l k' d) (sym (outline-append h.acts t.acts)) told.1;
+      outcome = subst (λ (l : List Act). IsDeleteOutcome sound p (length k0.seen) l k' d) (sym (outline-append h.acts t.acts)) told.1;
       since = t.since (length k0.seen) h.since;
     }
 

@@ -11,6 +11,7 @@ use Rattle.px_trail.specs.declared.entry.Entry.{Entry}
 use Rattle.px_trail.specs.Answers.{Given, IsCurrent}
 use Rattle.px_trail.specs.Batches.{rows_of}
 use Rattle.px_trail.specs.Legal.{IsLegal}
+use Rattle.px_trail.specs.Trail.{acts_by}
 use Rattle.px_calls.specs.declared.query.Path.{Path}
 use Rattle.px_calls.specs.declared.query.Point.{Point}
 use Rattle.px_calls.specs.declared.ticket.Receipt.{Receipt}
@@ -72,7 +73,7 @@ AreMade k t [] [] acts = acts ≡ []
 AreMade k t (cs ∷ parts) (r ∷ rs) acts = (mine : List Act) × (others : List Act) × (acts ≡ mine ++ others) × HasMadeBatch k t cs mine r × AreMade k t parts rs others
 AreMade k t parts rs acts = ⊥
 
--- the rows are found, some of their parts are removed, and the next one is under way
+-- The rows are found, some of their parts are removed, and the next one is under way. Since they were found the seat has done no more than that
 pub record IsRemoving (sound : Type 0) (p : Planned) (own : List Act) (k : Known) (run : BatchRun) (left : Left) : Type 0 where
   pub changes : List Change
   pub parts : List (List Change)
@@ -87,6 +88,7 @@ pub record IsRemoving (sound : Type 0) (p : Planned) (own : List Act) (k : Known
   pub behind : left.changes.items ≡ drop 1000 rest
   pub rows : left.rows ≡ length changes
   pub own_is : own ≡ finding ++ (making ++ batch.begun_by_batch p.table.id run.changes run.state)
+  pub found_first : outline (acts_by k.seat found.was.more) ≡ making ++ batch.begun_by_batch p.table.id run.changes run.state
 
 -- what the seat began, ended, opened, closed and defined for the run so far
 abbrev pub HasDone : Type 0 → Planned → List Act → DeleteState → Known → Type 0
@@ -142,7 +144,7 @@ IsDeleteSince n state.Over k = Unit {0}
 
 -- 3. Outcomes
 
--- all that were found are removed: each part has its receipt, and the rows are counted
+-- All that were found are removed: each part has its receipt, and the rows are counted. They were found before the first part was begun
 pub record HasRemoved (sound : Type 0) (p : Planned) (own : List Act) (k : Known) (rs : List Receipt) (m : Removed) : Type 0 where
   pub changes : List Change
   pub parts : List (List Change)
@@ -153,8 +155,9 @@ pub record HasRemoved (sound : Type 0) (p : Planned) (own : List Act) (k : Known
   pub split : IsSplit changes parts []
   pub rows : m.rows ≡ length changes
   pub own_is : own ≡ finding ++ making
+  pub found_first : outline (acts_by k.seat found.was.more) ≡ making
 
--- the next part is not made, and none behind it; those before it are, and have their receipts
+-- The next part is not made, and none behind it; those before it are, and have their receipts. The rows were found before the first part was begun
 pub record HasStopped (sound : Type 0) (p : Planned) (own : List Act) (k : Known) (rs : List Receipt) (f : BatchFault) : Type 0 where
   pub changes : List Change
   pub parts : List (List Change)
@@ -169,15 +172,17 @@ pub record HasStopped (sound : Type 0) (p : Planned) (own : List Act) (k : Known
   pub some : rest ≢ []
   pub outcome : batch.IsBatchOutcome sound p.table.id (take 1000 rest) stopping k (Err f)
   pub own_is : own ≡ finding ++ (making ++ stopping)
+  pub found_first : outline (acts_by k.seat found.was.more) ≡ making ++ stopping
 
--- What a DELETE came to, where `own` is what the seat began, ended, opened, closed and defined for it
-abbrev pub IsDeleteEnd : Type 0 → Planned → List Act → Known → List Receipt → Result Removed DeleteFault → Type 0
-IsDeleteEnd sound p own k rs (Ok m) = HasRemoved sound p own k rs m
-IsDeleteEnd sound p own k rs (Err (fault.Unread f)) = (rs ≡ []) × selecting.IsSelectOutcome sound p None own k (Err f)
-IsDeleteEnd sound p own k rs (Err (fault.Unmade f)) = HasStopped sound p own k rs f
+-- What a DELETE came to that opened nothing before the first n entries were there, where `own` is what the seat began, ended, opened, closed and
+-- defined for it
+abbrev pub IsDeleteEnd : Type 0 → Planned → ℕ → List Act → Known → List Receipt → Result Removed DeleteFault → Type 0
+IsDeleteEnd sound p n own k rs (Ok m) = HasRemoved sound p own k rs m
+IsDeleteEnd sound p n own k rs (Err (fault.Unread f)) = (rs ≡ []) × selecting.IsSelectOutcome sound p None own k (Err f)
+IsDeleteEnd sound p n own k rs (Err (fault.Unmade f)) = (h : HasStopped sound p own k rs f) × (n ≤ h.first)
 
-abbrev pub IsDeleteOutcome : Type 0 → Planned → List Act → Known → Deleted → Type 0
-IsDeleteOutcome sound p own k d = IsDeleteEnd sound p own k d.receipts.items d.end
+abbrev pub IsDeleteOutcome : Type 0 → Planned → ℕ → List Act → Known → Deleted → Type 0
+IsDeleteOutcome sound p n own k d = IsDeleteEnd sound p n own k d.receipts.items d.end
 
 -- its point was opened after the first n entries, or the entry of a failed device call came after them
 abbrev pub IsEndSince : ℕ → Result Removed DeleteFault → Known → Type 0
@@ -193,11 +198,11 @@ IsAwaited p (state.Finding run) k stamp = scan.IsAwaitedByQuery (query_of p) Non
 IsAwaited p (state.Removing run left) k stamp = batch.Waits k run.state stamp
 IsAwaited p state.Over k stamp = ⊥
 
--- what a step came to, where `own` is what the seat began, ended, opened, closed and defined for the run so far
-abbrev pub Told : Type 0 → Planned → DeleteState → List Act → DeleteState → Known → DeleteTurn → Type 0
-Told sound p old own new k turn.Stepped = IsDeleteGoing new × HasDone sound p own new k
-Told sound p old own new k (turn.Waiting stamp) = IsDeleteGoing new × HasDone sound p own new k × IsAwaited p old k stamp
-Told sound p old own new k (turn.Over d) = (new ≡ state.Over) × IsDeleteOutcome sound p own k d
+-- what a step of a run came to that began nothing before the first n entries were there, where `own` is what the seat did for it so far
+abbrev pub Told : Type 0 → Planned → ℕ → DeleteState → List Act → DeleteState → Known → DeleteTurn → Type 0
+Told sound p n old own new k turn.Stepped = IsDeleteGoing new × HasDone sound p own new k
+Told sound p n old own new k (turn.Waiting stamp) = IsDeleteGoing new × HasDone sound p own new k × IsAwaited p old k stamp
+Told sound p n old own new k (turn.Over d) = (new ≡ state.Over) × IsDeleteOutcome sound p n own k d
 
 abbrev pub IsDeleteSinceThen : ℕ → DeleteState → Known → DeleteTurn → Type 0
 IsDeleteSinceThen n new k turn.Stepped = IsDeleteSince n new k
@@ -214,7 +219,7 @@ pub record DeleteTurns (sound : Type 0) (p : Planned) (old : DeleteState) (k : K
   pub acts : List Act
   pub ran : Ran k k' acts
   pub fits : FitsDelete sound p new k'
-  pub told : (own : List Act) → HasDone sound p own old k → Told sound p old (own ++ outline acts) new k' t
+  pub told : (n : ℕ) (own : List Act) → IsDeleteSince n old k → HasDone sound p own old k → Told sound p n old (own ++ outline acts) new k' t
   pub since : (n : ℕ) → IsDeleteSince n old k → IsDeleteSinceThen n new k' t
   pub edge : Edge sound old k new k'
 
@@ -223,7 +228,7 @@ pub record DeleteTurns (sound : Type 0) (p : Planned) (old : DeleteState) (k : K
 pub record RanDelete (sound : Type 0) (p : Planned) (k k' : Known) (d : Deleted) : Type 0 where
   pub acts : List Act
   pub ran : Ran k k' acts
-  pub outcome : IsDeleteOutcome sound p (outline acts) k' d
+  pub outcome : IsDeleteOutcome sound p (length k.seen) (outline acts) k' d
   pub since : IsEndSince (length k.seen) d.end k'
 
 -- a DELETE on its way

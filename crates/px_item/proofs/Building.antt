@@ -37,7 +37,7 @@ use Rattle.px_calls.proofs.Runs.{may-come}
 use Rattle.px_calls.proofs.Stays.{drawn-stays}
 use Rattle.px_upkeep.specs.Turns as building
 use Rattle.px_item.specs.Builds.{IsAskedFor, IsNumberOf, StandsAs, altered, to_build}
-use Rattle.px_item.specs.Right.{IsBoundTo, definition_of, table_named}
+use Rattle.px_item.specs.Right.{IsBoundTo, definition_asked, table_named}
 
 -- 1. What stands under a number
 
@@ -166,7 +166,7 @@ module _ (b : Base) (es : List Entry) (f : Found) (found : IsFound b es f) (t : 
   dropped_drawn None e h = cc
   dropped_drawn (Some n) e h = subst Drawn (some_definition (d.DropIndex f.table.id n) e h) (λ q. none_table t q)
 
-  asked_drawn : (x : Statement) (e : Definition) → definition_of f x ≡ Some e → Drawn e
+  asked_drawn : (x : Statement) (e : Definition) → definition_asked f x ≡ Some e → Drawn e
   asked_drawn (s.DropTable y) e h = subst Drawn (some_definition (d.DropTable f.table.id) e h) (λ q. none_table t q)
   asked_drawn (s.CreateIndex y) e h = subst Drawn (some_definition (d.Index (new_index f.table y)) e h) (λ q. (of_this (same_table f.table.id t q), tt))
   asked_drawn (s.DropIndex y) e h = dropped_drawn (index_id_named f.indexes y.name) e h
@@ -183,7 +183,7 @@ drawn_grows b es more legal (d.DropTable t) h = tt
 drawn_grows b es more legal (d.DropIndex t i) h = tt
 
 -- what a statement was bound to, and what it asks for, has numbers that were drawn
-pub bound_drawn : (k : Known) (first : ℕ) (f : Found) (x : Statement) (e : Definition) (t : TableId) → IsBoundTo k.base k.seen first f (table_named x) → IsLegal k.base k.seen → definition_of f x ≡ Some e → to_build e ≡ Some t → IsDrawn k t.0 × IsDrawnFor k.base k.seen e
+pub bound_drawn : (k : Known) (first : ℕ) (f : Found) (x : Statement) (e : Definition) (t : TableId) → IsBoundTo k.base k.seen first f (table_named x) → IsLegal k.base k.seen → definition_asked f x ≡ Some e → to_build e ≡ Some t → IsDrawn k t.0 × IsDrawnFor k.base k.seen e
 bound_drawn k first f x e t bound legal asks builds =
     let whole : take bound.place k.seen ++ drop bound.place k.seen ≡ k.seen = take-append-drop bound.place k.seen in
     let l : IsLegal k.base (take bound.place k.seen ++ drop bound.place k.seen) = subst (λ (z : List Entry). IsLegal k.base z) (sym whole) legal in

@@ -1,5 +1,5 @@
 -- An order is told to be done only where one was asked for.
-use Rattle.std.proofs.Common.{ℕ, ◌≡◌, ◌⊎◌, if◌then◌else◌, Bool, true, false, List, ◌∷◌, Ok, Err, Result, refl, sym, ◌∙◌, ap, subst, inl, inr, ⊎_elim}
+use Rattle.std.proofs.Common.{ℕ, ◌≡◌, if◌then◌else◌, Bool, true, false, List, ◌∷◌, Ok, Err, Result, refl, sym, ◌∙◌, ap, subst, inl, inr, ⊎_elim}
 use Rattle.std.proofs.lemmas.Bool.{false≢true}
 use Rattle.px_lex.specs.Lexemes.{IsTextReading, Lexeme, before_fault, fault_from, tokens_from}
 use Rattle.px_lex.specs.Script.{SeenPiece, seen_piece}
@@ -33,7 +33,7 @@ use Rattle.px_item.specs.declared.item.ItemState.TheVariants as state
 use Rattle.px_item.specs.declared.item.ItemTurn.{ItemTurn}
 use Rattle.px_item.specs.declared.item.ItemTurn.TheVariants as turn
 use Rattle.px_item.specs.Right as right
-use Rattle.px_item.specs.Right.{AsksToCommit, IsAtOnce, IsCommandRead, IsRead, IsRight, SaysOf, command_of, IsOrdered, index_absent, name_taken, not_built, order_reply, table_absent, undefined}
+use Rattle.px_item.specs.Right.{AsksToCommit, IsAtOnce, IsCommandRead, IsReadItem, IsRight, SaysOf, command_ordering, IsOrdered, index_absent, name_taken, not_built, order_reply, table_absent, undefined}
 use Rattle.px_item.specs.Turns.{FitsItem, FitsState, ItemTurns, TellsDone}
 
 -- 1. Replies
@@ -122,7 +122,7 @@ module _ (a : Answered) (tells : is_order a.reply ≡ true) where
   not_stopped name f (inl is) = not_it _ is refl
   not_stopped name f (inr is) = not_it _ is.0 refl
 
-  pub ordered_only : (sound : Type 0) (k : Known) (before : ℕ) (own : List Act) (st : Settings) (p : SeenPiece) → IsRight sound k before own st p a → (job : Ordered) × IsCommandRead p (Ok (command_of job))
+  pub ordered_only : (sound : Type 0) (k : Known) (before : ℕ) (own : List Act) (st : Settings) (p : SeenPiece) → IsRight sound k before own st p a → (job : Ordered) × IsCommandRead p (Ok (command_ordering job))
   ordered_only sound k before own st p (right.is_ordered job read running says none) = (job, read)
   ordered_only sound k before own st p (right.is_not_ordered job fault read is since says none) = (job, read)
   ordered_only sound k before own st p (right.is_at_once once none) = absurd (not_at_once st p once)
@@ -175,27 +175,27 @@ one_command p c d r q =
     let mine = subst F (λ i. (text i, same i)) r.1.2.2 in
     ok_same c d _ (answer_is c q.1.0 q.1.2.0 mine) (answer_is d q.1.0 q.1.2.0 q.1.2.2)
 
-not_statement : (p : SeenPiece) (c : Command) (x : Statement) → IsRead p (Ok x) → IsCommandRead p (Ok c) → ⊥
+not_statement : (p : SeenPiece) (c : Command) (x : Statement) → IsReadItem p (Ok x) → IsCommandRead p (Ok c) → ⊥
 not_statement p c x r q = (let e = sym r.0 ∙ q.0 in cc)
 
-other_command : (p : SeenPiece) (c : Command) (job : Ordered) → IsCommandRead p (Ok c) → IsCommandRead p (Ok (command_of job)) → (c ≡ command_of job → ⊥) → ⊥
-other_command p c job r q differs = differs (one_command p c (command_of job) r q)
+other_command : (p : SeenPiece) (c : Command) (job : Ordered) → IsCommandRead p (Ok c) → IsCommandRead p (Ok (command_ordering job)) → (c ≡ command_ordering job → ⊥) → ⊥
+other_command p c job r q differs = differs (one_command p c (command_ordering job) r q)
 
-no_commit : (job : Ordered) → commands.Commit ≡ command_of job → ⊥
+no_commit : (job : Ordered) → commands.Commit ≡ command_ordering job → ⊥
 no_commit jobs.FlushAll e = cc
 no_commit jobs.CompactAll e = cc
 
-no_switch : (job : Ordered) (on : Bool) → commands.Autocommit on ≡ command_of job → ⊥
+no_switch : (job : Ordered) (on : Bool) → commands.Autocommit on ≡ command_ordering job → ⊥
 no_switch jobs.FlushAll on e = cc
 no_switch jobs.CompactAll on e = cc
 
-no_status : (job : Ordered) (name : List ℕ) → commands.Status name ≡ command_of job → ⊥
+no_status : (job : Ordered) (name : List ℕ) → commands.Status name ≡ command_ordering job → ⊥
 no_status jobs.FlushAll name e = cc
 no_status jobs.CompactAll name e = cc
 
-no_ask : (k : Known) (first : ℕ) (st : Settings) (p : SeenPiece) (h : _) (again : Bool) (job : Ordered) → AsksToCommit k first st p h again → IsCommandRead p (Ok (command_of job)) → ⊥
+no_ask : (k : Known) (first : ℕ) (st : Settings) (p : SeenPiece) (h : _) (again : Bool) (job : Ordered) → AsksToCommit k first st p h again → IsCommandRead p (Ok (command_ordering job)) → ⊥
 no_ask k first st p h true job (inl r) q = other_command p (commands.Autocommit true) job r q (no_switch job true)
-no_ask k first st p h true job (inr m) q = not_statement p (command_of job) m.statement m.read q
+no_ask k first st p h true job (inr m) q = not_statement p (command_ordering job) m.statement m.read q
 no_ask k first st p h false job r q = other_command p commands.Commit job r q (no_commit job)
 
 -- 4. Only an order on its way ends so
@@ -206,14 +206,14 @@ IsOther (state.Ordering run) = ⊥
 IsOther st = Unit {0}
 
 module _ (sound : Type 0) (before : ℕ) (asked : Asked) (own : List Act) where
-  no_order : (st : ItemState) (k : Known) → IsOther st → FitsState sound before asked own st k → (job : Ordered) → IsCommandRead (seen_piece asked.piece) (Ok (command_of job)) → ⊥
-  no_order (state.Finding x) k other f job q = not_statement (seen_piece asked.piece) (command_of job) x f.read q
-  no_order (state.Changing x run room) k other f job q = not_statement (seen_piece asked.piece) (command_of job) x f.0.read q
-  no_order (state.Defining x run) k other f job q = not_statement (seen_piece asked.piece) (command_of job) x f.0.read q
-  no_order (state.Building x run) k other f job q = not_statement (seen_piece asked.piece) (command_of job) x f.0.read q
-  no_order (state.Selecting x run) k other f job q = not_statement (seen_piece asked.piece) (command_of job) x f.0.read q
-  no_order (state.Deleting x run) k other f job q = not_statement (seen_piece asked.piece) (command_of job) x f.0.read q
-  no_order (state.Seeking x run) k other f job q = not_statement (seen_piece asked.piece) (command_of job) x f.0.read q
+  no_order : (st : ItemState) (k : Known) → IsOther st → FitsState sound before asked own st k → (job : Ordered) → IsCommandRead (seen_piece asked.piece) (Ok (command_ordering job)) → ⊥
+  no_order (state.Finding x) k other f job q = not_statement (seen_piece asked.piece) (command_ordering job) x f.read q
+  no_order (state.Changing x run room) k other f job q = not_statement (seen_piece asked.piece) (command_ordering job) x f.0.read q
+  no_order (state.Defining x run) k other f job q = not_statement (seen_piece asked.piece) (command_ordering job) x f.0.read q
+  no_order (state.Building x run) k other f job q = not_statement (seen_piece asked.piece) (command_ordering job) x f.0.read q
+  no_order (state.Selecting x run) k other f job q = not_statement (seen_piece asked.piece) (command_ordering job) x f.0.read q
+  no_order (state.Deleting x run) k other f job q = not_statement (seen_piece asked.piece) (command_ordering job) x f.0.read q
+  no_order (state.Seeking x run) k other f job q = not_statement (seen_piece asked.piece) (command_ordering job) x f.0.read q
   no_order (state.Committing again run) k other f job q = no_ask k asked.first asked.settings (seen_piece asked.piece) f.held again job f.asks q
   no_order (state.Counting name run) k other f job q = other_command (seen_piece asked.piece) (commands.Status name) job f.read q (no_status job name)
   no_order (state.Ordering run) k other f job q = other

@@ -55,7 +55,7 @@ use Rattle.px_ast.specs.declared.definition.IndexAction.{IndexAction}
 use Rattle.px_ast.specs.declared.definition.IndexAction.TheVariants.{Disable, Rebuild}
 use Rattle.px_item.specs.Builds.{altered}
 use Rattle.px_item.specs.Right as right
-use Rattle.px_item.specs.Right.{AsksToCommit, MayHold, FollowsFound, FollowsTo, GoesToCommit, MakesWay, holds, IsBoundTo, IsRead, IsRight, IsTold, MayRun, Says, changes, deletion_query, definition_of, plain, table_named, unfound}
+use Rattle.px_item.specs.Right.{AsksToCommit, MayHold, FollowsFound, FollowsTo, GoesToCommit, MakesWay, holds, IsBoundTo, IsReadItem, IsRight, IsTold, MayRun, SaysOnly, changes, deletion_query, definition_asked, plain, table_named, unfound}
 use Rattle.px_item.specs.Seeking.{SearchesIn, Seeks}
 use Rattle.px_item.specs.Turns.{FitsItem, IsAsking, IsDefining, ItemTurns}
 use Rattle.px_planned.specs.Queries.{query_of}
@@ -100,7 +100,7 @@ module _ (sound : Type 0) (before : ℕ) (asked : Asked) (mine : List Act) where
   may_alter k t Disable n = tt
   may_alter k t Rebuild n = tt
 
-  may_define : (k : Known) (f : Found) (x : Statement) (y : Definition) → IsFound k.base k.seen f → right.IsFitFor f.table y → definition_of f x ≡ Some y → CanDefine sound k y
+  may_define : (k : Known) (f : Found) (x : Statement) (y : Definition) → IsFound k.base k.seen f → right.IsFitFor f.table y → definition_asked f x ≡ Some y → CanDefine sound k y
   may_define k f (s.DropTable t) y found fit h = subst (λ (z : Definition). CanDefine sound k z) (some_definition (d.DropTable f.table.id) y h) tt
   may_define k f (s.CreateIndex i) y found fit h =
       let F : Definition → Type 0 = λ z. right.IsFitFor f.table z → CanDefine sound k z in
@@ -109,19 +109,19 @@ module _ (sound : Type 0) (before : ℕ) (asked : Asked) (mine : List Act) where
   may_define k f (s.AlterIndex i) y found fit h = of_some k (λ n. altered f.table.id i.action n) (may_alter k f.table.id i.action) (index_id_named f.indexes i.name) y h
   may_define k f x y found fit h = cc
 
-  plain_told : (x : Statement) (f : Found) (k : Known) (own : List Act) (r : Reply) (a : Answered) → IsRead (seen_piece asked.piece) (Ok x) → MayRun asked.settings x → IsBoundTo k.base k.seen a.first f (table_named x)
-      → (r ≡ reply.Refused refusal.Memory) ⊎ ((fault : BindFault) × IsFirstBindFault (faults_in f x) fault × (r ≡ reply.Refused (right.bind_refusal fault))) → Says a r asked.settings → own ≡ [] → IsRight sound (plain k) before own asked.settings (seen_piece asked.piece) a
+  plain_told : (x : Statement) (f : Found) (k : Known) (own : List Act) (r : Reply) (a : Answered) → IsReadItem (seen_piece asked.piece) (Ok x) → MayRun asked.settings x → IsBoundTo k.base k.seen a.first f (table_named x)
+      → (r ≡ reply.Refused refusal.Memory) ⊎ ((fault : BindFault) × IsFirstBindFault (faults_in f x) fault × (r ≡ reply.Refused (right.bind_refusal fault))) → SaysOnly a r asked.settings → own ≡ [] → IsRight sound (plain k) before own asked.settings (seen_piece asked.piece) a
   plain_told x f k own r a read free bound (inl e) says quiet = right.is_at_once (right.is_lacking (says.0 ∙ e, says.1, says.2, says.3)) quiet
   plain_told x f k own r a read free bound (inr e) says quiet = right.is_wrong x f e.0 read free bound e.1 (says.0 ∙ e.2, says.1, says.2, says.3) quiet
 
-  explained_so : (q : Select) (f : Found) (x : Asks) (k : Known) (own : List Act) (r : Reply) (a : Answered) → IsRead (seen_piece asked.piece) (Ok (s.Explain q)) → IsBoundTo k.base k.seen a.first f q.table → select_faults f.table.columns q ≡ []
-      → IsQuery f.table q x → right.IsExplanation f (right.point_of asked.settings.scn) x r → Says a r asked.settings → own ≡ [] → IsRight sound (plain k) before own asked.settings (seen_piece asked.piece) a
+  explained_so : (q : Select) (f : Found) (x : Asks) (k : Known) (own : List Act) (r : Reply) (a : Answered) → IsReadItem (seen_piece asked.piece) (Ok (s.Explain q)) → IsBoundTo k.base k.seen a.first f q.table → select_faults f.table.columns q ≡ []
+      → IsQuery f.table q x → right.IsExplanation f (right.point_of asked.settings.scn) x r → SaysOnly a r asked.settings → own ≡ [] → IsRight sound (plain k) before own asked.settings (seen_piece asked.piece) a
   explained_so q f x k own r a read bound none is (inl e) says quiet = right.is_at_once (right.is_lacking (says.0 ∙ e, says.1, says.2, says.3)) quiet
   explained_so q f x k own r a read bound none is (inr (inl e)) says quiet = right.is_explained q f e.0 read bound (none, (x, is, e.1)) (says.0 ∙ e.2, says.1, says.2, says.3) quiet
   explained_so q f x k own r a read bound none is (inr (inr e)) says quiet = right.is_not_explained q f read bound (none, (x, is, e.0)) (says.0 ∙ e.1, says.1, says.2, says.3) quiet
 
-  told_without : (x : Statement) (f : Found) (k : Known) (own : List Act) (r : Reply) (a : Answered) → IsRead (seen_piece asked.piece) (Ok x) → MayRun asked.settings x → IsBoundTo k.base k.seen a.first f (table_named x) → IsTold asked.settings.scn f x r
-      → Says a r asked.settings → own ≡ [] → IsRight sound (plain k) before own asked.settings (seen_piece asked.piece) a
+  told_without : (x : Statement) (f : Found) (k : Known) (own : List Act) (r : Reply) (a : Answered) → IsReadItem (seen_piece asked.piece) (Ok x) → MayRun asked.settings x → IsBoundTo k.base k.seen a.first f (table_named x) → IsTold asked.settings.scn f x r
+      → SaysOnly a r asked.settings → own ≡ [] → IsRight sound (plain k) before own asked.settings (seen_piece asked.piece) a
   told_without (s.DropIndex i) f k own r a read free bound (inl e) says quiet = right.is_at_once (right.is_lacking (says.0 ∙ e, says.1, says.2, says.3)) quiet
   told_without (s.DropIndex i) f k own r a read free bound (inr (inl e)) says quiet = right.is_wrong (s.DropIndex i) f e.0 read free bound e.1 (says.0 ∙ e.2, says.1, says.2, says.3) quiet
   told_without (s.DropIndex i) f k own r a read free bound (inr (inr e)) says quiet = right.is_index_absent i f read (free refl) bound e.0 e.1 (says.0 ∙ e.2, says.1, says.2, says.3) quiet
@@ -320,7 +320,7 @@ module _ (sound : Type 0) (before : ℕ) (asked : Asked) (mine : List Act) where
         let first = h.3.0 in
         let off = off_when asked.settings.autocommit (right.is_upsert x) on in
         let quiet = nothing_more mine fits.done in
-        let read = subst (λ (y : Statement). IsRead (seen_piece asked.piece) (Ok y)) is found_fits.state.read in
+        let read = subst (λ (y : Statement). IsReadItem (seen_piece asked.piece) (Ok y)) is found_fits.state.read in
         let free = found_fits.state.free (ap changes is) in
         let b = subst (λ (y : Statement). IsBoundTo k'.base k'.seen a.first f (table_named y)) is (bound_by a first) in
         held_over a first (⊎_elim
@@ -390,7 +390,7 @@ module _ (sound : Type 0) (before : ℕ) (asked : Asked) (mine : List Act) where
   lacking_plain k n name h = record { place = h.place; from = h.from; within = h.within; none = h.none }
 
   unfound_so : (x : Statement) (f : StepFault) (k k' : Known) (r : Reply) (a : Answered) (own : List Act) → FitsItem sound before asked mine (state.Finding x) k' → find_cause (table_named x) f k' → a.first ≡ asked.first → (r ≡ unfound x f) ⊎ (r ≡ reply.Refused refusal.Memory)
-      → Says a r asked.settings → own ≡ [] → IsRight sound (plain k') before own asked.settings (seen_piece asked.piece) a
+      → SaysOnly a r asked.settings → own ≡ [] → IsRight sound (plain k') before own asked.settings (seen_piece asked.piece) a
   unfound_so x f k k' r a own fits cause first (inr e) says quiet = right.is_at_once (right.is_lacking (says.0 ∙ e, says.1, says.2, says.3)) quiet
   unfound_so x step.NoTable k k' r a own fits cause first (inl e) says quiet =
       let l = subst (λ (n : ℕ). right.IsLacking (plain k') n (table_named x)) (sym first) (lacking_plain k' asked.first (table_named x) (lacking_here k' (table_named x) fits.within cause)) in
@@ -415,7 +415,7 @@ module _ (sound : Type 0) (before : ℕ) (asked : Asked) (mine : List Act) where
   quiet_find x step.Memory k k' h = (h.0, h.1)
 
   pub found_none : (x : Statement) (f : StepFault) (k k' : Known) (r : Reply) (a : Answered) → FitsItem sound before asked mine (state.Finding x) k → Refuses (find_cause (table_named x)) k k' f → a.first ≡ asked.first
-      → (r ≡ unfound x f) ⊎ (r ≡ reply.Refused refusal.Memory) → Says a r asked.settings → ItemTurns sound before asked mine k k' (turn.Over a)
+      → (r ≡ unfound x f) ⊎ (r ≡ reply.Refused refusal.Memory) → SaysOnly a r asked.settings → ItemTurns sound before asked mine k k' (turn.Over a)
   found_none x f k k' r a fits h first told says =
       let q = quiet_find x f k k' h in
       let ran = ran-sees k k' q.1 in

@@ -1,5 +1,5 @@
 -- How a batch, a definition, an index, a SELECT and a DELETE go on.
-use Rattle.std.proofs.Common.{ℕ, ◌≡◌, true, Option, None, Some, Result, Ok, Err, List, [], ◌++◌, refl, sym, ◌∙◌, ap, subst, arith, ◌⊎◌, inl, inr, ⊎_elim}
+use Rattle.std.proofs.Common.{ℕ, ◌≡◌, ◌≤◌, true, Option, None, Some, Result, Ok, Err, List, [], ◌++◌, refl, sym, ◌∙◌, ap, subst, arith, ◌⊎◌, inl, inr, ⊎_elim}
 use Rattle.px_lex.specs.Script.{seen_piece}
 use Rattle.px_ast.specs.declared.definition.CreateTable.{CreateTable}
 use Rattle.px_ast.specs.declared.statement.Statement.{Statement}
@@ -35,9 +35,9 @@ use Rattle.px_item.specs.declared.item.ItemState.TheVariants as state
 use Rattle.px_item.specs.declared.item.ItemTurn.TheVariants as turn
 use Rattle.px_item.specs.Builds.{to_build}
 use Rattle.px_item.specs.Right as right
-use Rattle.px_item.specs.Right.{IsBoundTo, IsChanged, IsDefined, IsDeletion, IsRead, IsRight, Says, known_after, changes, deletion_query, definition_of, one_change, plain, table_named}
+use Rattle.px_item.specs.Right.{IsBoundTo, IsChanged, IsDefined, IsDeletion, IsReadItem, IsRight, SaysOnly, known_after, changes, deletion_query, definition_asked, one_change, plain, table_named}
 use Rattle.px_item.specs.Turns.{FitsItem, IsAsking, IsCreating, IsDefining, ItemTurns}
-use Rattle.px_item.proofs.Plain.{batch_plain, batch_since_plain, define_plain, define_since_plain, defined_plain, ended_plain, outcome_plain, query_since_plain, removed_plain, stopped_plain}
+use Rattle.px_item.proofs.Plain.{batch_plain, batch_since_plain, define_plain, define_since_plain, defined_plain, ended_plain, outcome_plain, query_since_plain, removed_plain, stopped_first, stopped_plain}
 use Rattle.px_planned.specs.Queries.{query_of}
 use Rattle.px_planned.specs.declared.planned.Planned.{Planned}
 use Rattle.px_scan.specs.Turns as scan
@@ -67,11 +67,11 @@ module _ (sound : Type 0) (before : ℕ) (asked : Asked) (mine : List Act) where
   no_stop own k f cs (inl e) = e
   no_stop own k f cs (inr e) = absurd e.0
 
-  not_changed : (x : Statement) (u : _) (f : Found) (e : BatchFault) (k : Known) (own : List Act) (a : Answered) → x ≡ s.Upsert u → IsRead (seen_piece asked.piece) (Ok x) → asked.settings.scn ≡ None → asked.settings.autocommit ≡ true → IsBoundTo k.base k.seen a.first f u.table
+  not_changed : (x : Statement) (u : _) (f : Found) (e : BatchFault) (k : Known) (own : List Act) (a : Answered) → x ≡ s.Upsert u → IsReadItem (seen_piece asked.piece) (Ok x) → asked.settings.scn ≡ None → asked.settings.autocommit ≡ true → IsBoundTo k.base k.seen a.first f u.table
       → upsert_faults f.table u ≡ [] → batch.BatchFaultIs sound f.table.id (one_change f u) e k × batch.HasLeft f.table.id (one_change f u) e own k → batch.BatchFaultSince before e k
       → right.SaysRefused a (right.batch_refusal (table_named x) e) asked.settings ⊎ (right.SaysRefused a refusal.Memory asked.settings × (e ≡ unmade.NoTable)) → IsRight sound (plain k) before own asked.settings (seen_piece asked.piece) a
   not_changed x u f e k own a is read free alone bound none left since (inl says) =
-      right.is_not_changed u f e (subst (λ (y : Statement). IsRead (seen_piece asked.piece) (Ok y)) is read) free alone bound none (batch_plain sound f.table.id (one_change f u) e k left.0) (batch_since_plain before e k since) left.1
+      right.is_not_changed u f e (subst (λ (y : Statement). IsReadItem (seen_piece asked.piece) (Ok y)) is read) free alone bound none (batch_plain sound f.table.id (one_change f u) e k left.0) (batch_since_plain before e k since) left.1
       (subst (λ (y : Statement). right.SaysRefused a (right.batch_refusal (table_named y) e) asked.settings) is says)
   not_changed x u f e k own a is read free alone bound none left since (inr says) =
       right.is_at_once (right.is_lacking says.0) (no_stop own k f (one_change f u) (subst (λ (g : BatchFault). batch.HasLeft f.table.id (one_change f u) g own k) says.1 left.1))
@@ -124,7 +124,7 @@ module _ (sound : Type 0) (before : ℕ) (asked : Asked) (mine : List Act) where
         told = (
           first_low asked a c.0,
           first_within asked k' a (longer k k' asked.first later f.within) c.0,
-          right.is_changed j.upsert j.found r (subst (λ (y : Statement). IsRead (seen_piece asked.piece) (Ok y)) j.is f.state.0.read) (f.state.0.free (ap changes j.is)) j.alone bound j.right (ended_plain j.found.table.id (one_change j.found j.upsert) own k' r ended) c.1,
+          right.is_changed j.upsert j.found r (subst (λ (y : Statement). IsReadItem (seen_piece asked.piece) (Ok y)) j.is f.state.0.read) (f.state.0.free (ap changes j.is)) j.alone bound j.right (ended_plain j.found.table.id (one_change j.found j.upsert) own k' r ended) c.1,
         );
       }
   change_is_over x old new room k k' (Err e) a f t c =
@@ -144,8 +144,8 @@ module _ (sound : Type 0) (before : ℕ) (asked : Asked) (mine : List Act) where
       let later = of_ran k k' acts ran in
       record { begins = f.begins; within = longer k k' asked.first later f.within; state = (f.state.0, define_later sound asked x old new k k' later f.state.1 definition (λ was. fits) (λ was. going)); done = and_then mine [] acts f.done ∙ quiet }
 
-  not_defined : (x : Statement) (f : Found) (e : DefineFault) (y : Definition) (k : Known) (own : List Act) (a : Answered) → IsRead (seen_piece asked.piece) (Ok x) → asked.settings.scn ≡ None → IsBoundTo k.base k.seen a.first f (table_named x)
-      → faults_in f x ≡ [] → definition_of f x ≡ Some y → define.DefinitionFaultIs y e k → define.DefinitionFaultSince before e k → own ≡ [] → Says a (right.undefined x e) asked.settings ⊎ right.SaysRefused a refusal.Memory asked.settings
+  not_defined : (x : Statement) (f : Found) (e : DefineFault) (y : Definition) (k : Known) (own : List Act) (a : Answered) → IsReadItem (seen_piece asked.piece) (Ok x) → asked.settings.scn ≡ None → IsBoundTo k.base k.seen a.first f (table_named x)
+      → faults_in f x ≡ [] → definition_asked f x ≡ Some y → define.DefinitionFaultIs y e k → define.DefinitionFaultSince before e k → own ≡ [] → SaysOnly a (right.undefined x e) asked.settings ⊎ right.SaysRefused a refusal.Memory asked.settings
       → IsRight sound (plain k) before own asked.settings (seen_piece asked.piece) a
   not_defined x f e y k own a read free bound none is told since quiet (inl says) = right.is_not_defined x f e y read free bound none is (define_plain y e k told) (define_since_plain before e k since) quiet says
   not_defined x f e y k own a read free bound none is told since quiet (inr says) = right.is_at_once (right.is_lacking says) quiet
@@ -159,8 +159,8 @@ module _ (sound : Type 0) (before : ℕ) (asked : Asked) (mine : List Act) where
       let bound = subst (λ (n : ℕ). IsBoundTo k'.base k'.seen n j.found (table_named x)) (sym c.0) (bound_later k k' asked.first j.found (table_named x) later j.bound) in
       not_defined x j.found e old.definition k' own a asking.read (asking.free (asks_change j.found x old.definition j.definition)) bound j.right j.definition out.0 since out.1 c.1
 
-  not_created : (t : CreateTable) (e : DefineFault) (k : Known) (own : List Act) (a : Answered) → IsRead (seen_piece asked.piece) (Ok (s.CreateTable t)) → right.is_none_of t.splits ≡ true → asked.settings.scn ≡ None → table_faults t ≡ []
-      → define.DefinitionFaultIs (d.Table (new_table t)) e k → define.DefinitionFaultSince before e k → own ≡ [] → Says a (right.undefined (s.CreateTable t) e) asked.settings ⊎ right.SaysRefused a refusal.Memory asked.settings
+  not_created : (t : CreateTable) (e : DefineFault) (k : Known) (own : List Act) (a : Answered) → IsReadItem (seen_piece asked.piece) (Ok (s.CreateTable t)) → right.is_none_of t.splits ≡ true → asked.settings.scn ≡ None → table_faults t ≡ []
+      → define.DefinitionFaultIs (d.Table (new_table t)) e k → define.DefinitionFaultSince before e k → own ≡ [] → SaysOnly a (right.undefined (s.CreateTable t) e) asked.settings ⊎ right.SaysRefused a refusal.Memory asked.settings
       → IsRight sound (plain k) before own asked.settings (seen_piece asked.piece) a
   not_created t e k own a read whole free none told since quiet (inl says) = right.is_not_created t e read whole free none (define_plain (d.Table (new_table t)) e k told) (define_since_plain before e k since) quiet says
   not_created t e k own a read whole free none told since quiet (inr says) = right.is_at_once (right.is_lacking says) quiet
@@ -168,14 +168,14 @@ module _ (sound : Type 0) (before : ℕ) (asked : Asked) (mine : List Act) where
   create_told : (x : Statement) (old : DefineRun) (k k' : Known) (own : List Act) (r : Result Made DefineFault) (a : Answered) → IsAsking asked x → IsCreating sound x old k → define.IsDefinitionOutcome old.definition own k' r
       → define.IsDefinitionSinceThen before k' (dt.Over r) → IsDefined asked x r a → IsRight sound (plain k') before own asked.settings (seen_piece asked.piece) a
   create_told x old k k' own (Ok m) a asking j out since c =
-      let read = subst (λ (y : Statement). IsRead (seen_piece asked.piece) (Ok y)) j.is asking.read in
+      let read = subst (λ (y : Statement). IsReadItem (seen_piece asked.piece) (Ok y)) j.is asking.read in
       let made = subst (λ (y : Definition). define.HasDefined y own k' m) j.definition out in
-      let says = subst (λ (y : Statement). Says a (reply.Defined (right.definition_word y)) asked.settings) j.is c.1 in
+      let says = subst (λ (y : Statement). SaysOnly a (reply.Defined (right.definition_word y)) asked.settings) j.is c.1 in
       right.is_created j.create m read j.whole (asking.free (ap changes j.is)) j.right (defined_plain (d.Table (new_table j.create)) own k' m made) says
   create_told x old k k' own (Err e) a asking j out since c =
-      let read = subst (λ (y : Statement). IsRead (seen_piece asked.piece) (Ok y)) j.is asking.read in
+      let read = subst (λ (y : Statement). IsReadItem (seen_piece asked.piece) (Ok y)) j.is asking.read in
       let fault = subst (λ (y : Definition). define.DefinitionFaultIs y e k') j.definition out.0 in
-      let F : Statement → Type 0 = λ y. Says a (right.undefined y e) asked.settings ⊎ right.SaysRefused a refusal.Memory asked.settings in
+      let F : Statement → Type 0 = λ y. SaysOnly a (right.undefined y e) asked.settings ⊎ right.SaysRefused a refusal.Memory asked.settings in
       not_created j.create e k' own a read j.whole (asking.free (ap changes j.is)) j.right fault since out.1 (subst F j.is c.1)
 
   define_told : (x : Statement) (old : DefineRun) (k k' : Known) (own : List Act) (r : Result Made DefineFault) (a : Answered) → Later k k' → IsAsking asked x → IsDefining sound asked x old k ⊎ IsCreating sound x old k
@@ -250,7 +250,7 @@ module _ (sound : Type 0) (before : ℕ) (asked : Asked) (mine : List Act) where
       record {
         acts = t.acts;
         ran = t.ran;
-        told = (omega arith, omega arith, right.is_selected j.select j.found old.scan.query r (subst (λ (y : Statement). IsRead (seen_piece asked.piece) (Ok y)) j.is f.state.0.read) bound j.planned out c);
+        told = (omega arith, omega arith, right.is_selected j.select j.found old.scan.query r (subst (λ (y : Statement). IsReadItem (seen_piece asked.piece) (Ok y)) j.is f.state.0.read) bound j.planned out c);
       }
   select_is_over x old new k k' (Err e) a f t c =
       let later = of_ran k k' t.acts t.ran in
@@ -265,7 +265,7 @@ module _ (sound : Type 0) (before : ℕ) (asked : Asked) (mine : List Act) where
         told = (
           first_low asked a c.0,
           first_within asked k' a (longer k k' asked.first later f.within) c.0,
-          right.is_not_selected j.select j.found old.scan.query e (subst (λ (y : Statement). IsRead (seen_piece asked.piece) (Ok y)) j.is f.state.0.read) bound j.planned out (query_since_plain before e k' (t.since before j.since)) (subst F j.is c.1),
+          right.is_not_selected j.select j.found old.scan.query e (subst (λ (y : Statement). IsReadItem (seen_piece asked.piece) (Ok y)) j.is f.state.0.read) bound j.planned out (query_since_plain before e k' (t.since before j.since)) (subst F j.is c.1),
         );
       }
 
@@ -302,7 +302,7 @@ module _ (sound : Type 0) (before : ℕ) (asked : Asked) (mine : List Act) where
   delete_goes_on x old new k k' f turns =
       let j = f.state.1 in
       let t = turns (deletion_query j.found j.delete) j.fits in
-      let told = t.told mine j.done in
+      let told = t.told asked.first mine j.since j.done in
       record { acts = t.acts; ran = t.ran; told = (refl, delete_stays x old new k k' t.acts f t.ran t.fits told.0 told.1 (t.since asked.first j.since)) }
 
   pub delete_waits : (x : Statement) (old new : DeleteRun) (k k' : Known) (stamp : ℕ) → FitsItem sound before asked mine (state.Deleting x old) k
@@ -310,25 +310,26 @@ module _ (sound : Type 0) (before : ℕ) (asked : Asked) (mine : List Act) where
   delete_waits x old new k k' stamp f turns =
       let j = f.state.1 in
       let t = turns (deletion_query j.found j.delete) j.fits in
-      let told = t.told mine j.done in
+      let told = t.told asked.first mine j.since j.done in
       record { acts = t.acts; ran = t.ran; told = (refl, delete_stays x old new k k' t.acts f t.ran t.fits told.0 told.1 (t.since asked.first j.since)) }
 
   deletion_told : (x : Statement) (y : Delete) (f : Found) (k : Known) (own : List Act) (rs : List Receipt) (e : Result Removed DeleteFault) (a : Answered) → x ≡ s.Delete y → IsAsking asked x → asked.settings.autocommit ≡ true → IsBoundTo k.base k.seen a.first f y.table → delete_faults f.table.columns y ≡ []
-      → deleting.IsDeleteEnd sound (deletion_query f y) own k rs e → deleting.IsEndSince a.first e k → right.TellsEnd x e a.reply → a.receipts ≡ rs → a.places ≡ [] → a.after ≡ Rattle.px_item.specs.declared.answered.After.TheVariants.Next asked.settings → IsRight sound (plain k) before own asked.settings (seen_piece asked.piece) a
+      → deleting.IsDeleteEnd sound (deletion_query f y) a.first own k rs e → deleting.IsEndSince a.first e k → right.TellsEnd x e a.reply → a.receipts ≡ rs → a.places ≡ [] → a.after ≡ Rattle.px_item.specs.declared.answered.After.TheVariants.Next asked.settings → IsRight sound (plain k) before own asked.settings (seen_piece asked.piece) a
   deletion_told x y f k own rs (Ok m) a is asking on bound none end since tells receipts places after =
-      let read = subst (λ (z : Statement). IsRead (seen_piece asked.piece) (Ok z)) is asking.read in
+      let read = subst (λ (z : Statement). IsReadItem (seen_piece asked.piece) (Ok z)) is asking.read in
       let h = removed_plain sound (deletion_query f y) own k rs m end in
       right.is_deleted y f m read (asking.free (ap changes is)) on bound none (subst (λ (l : List Receipt). deleting.HasRemoved sound (deletion_query f y) own (plain k) l m) (sym receipts) h) since (tells, places, after)
   deletion_told x y f k own rs (Err (undeleted.Unread e)) a is asking on bound none end since tells receipts places after =
-      let read = subst (λ (z : Statement). IsRead (seen_piece asked.piece) (Ok z)) is asking.read in
+      let read = subst (λ (z : Statement). IsReadItem (seen_piece asked.piece) (Ok z)) is asking.read in
       let out = outcome_plain sound (deletion_query f y) None own k (Err e) end.1 in
       let F : Statement → Type 0 = λ z. (a.reply ≡ reply.Refused (right.query_refusal (table_named z) e)) ⊎ (a.reply ≡ reply.Refused refusal.Memory) in
       let quiet = receipts ∙ end.0 in
       right.is_not_found y f e read (asking.free (ap changes is)) bound none out (query_since_plain a.first e k since) (⊎_elim (λ h. inl (h, quiet, places, after)) (λ h. inr (h, quiet, places, after)) (subst F is tells))
   deletion_told x y f k own rs (Err (undeleted.Unmade e)) a is asking on bound none end since tells receipts places after =
-      let read = subst (λ (z : Statement). IsRead (seen_piece asked.piece) (Ok z)) is asking.read in
-      let h = stopped_plain sound (deletion_query f y) own k rs e end in
-      right.is_not_deleted y f e read (asking.free (ap changes is)) on bound none (subst (λ (l : List Receipt). deleting.HasStopped sound (deletion_query f y) own (plain k) l e) (sym receipts) h) (batch_since_plain a.first e k since)
+      let read = subst (λ (z : Statement). IsReadItem (seen_piece asked.piece) (Ok z)) is asking.read in
+      let h = stopped_plain sound (deletion_query f y) own k rs a.receipts e receipts end.0 in
+      let low = subst (λ (n : ℕ). a.first ≤ n) (sym (stopped_first sound (deletion_query f y) own k rs a.receipts e receipts end.0)) end.1 in
+      right.is_not_deleted y f e read (asking.free (ap changes is)) on bound none h (low, batch_since_plain a.first e k since)
       (subst (λ (z : Statement). right.StopsDelete a.reply (table_named z) e) is tells) (places, after)
 
   pub delete_is_over : (x : Statement) (old new : DeleteRun) (k k' : Known) (d : Deleted) (a : Answered) → FitsItem sound before asked mine (state.Deleting x old) k
@@ -336,16 +337,17 @@ module _ (sound : Type 0) (before : ℕ) (asked : Asked) (mine : List Act) where
   delete_is_over x old new k k' d a f turns c =
       let j = f.state.1 in
       let t = turns (deletion_query j.found j.delete) j.fits in
-      let told = t.told mine j.done in
+      let told = t.told asked.first mine j.since j.done in
       let later = of_ran k k' t.acts t.ran in
       let bound = subst (λ (n : ℕ). IsBoundTo k'.base k'.seen n j.found j.delete.table) (sym c.0) (bound_later k k' asked.first j.found j.delete.table later j.bound) in
       let since = subst (λ (n : ℕ). deleting.IsEndSince n d.end k') (sym c.0) (t.since asked.first j.since) in
+      let outcome = subst (λ (n : ℕ). deleting.IsDeleteEnd sound (deletion_query j.found j.delete) n (mine ++ outline t.acts) k' d.receipts.items d.end) (sym c.0) told.1 in
       record {
         acts = t.acts;
         ran = t.ran;
         told = (
           first_low asked a c.0,
           first_within asked k' a (longer k k' asked.first later f.within) c.0,
-          deletion_told x j.delete j.found k' (mine ++ outline t.acts) d.receipts.items d.end a j.is f.state.0 j.alone bound j.right told.1 since c.1 c.2 c.3 c.4,
+          deletion_told x j.delete j.found k' (mine ++ outline t.acts) d.receipts.items d.end a j.is f.state.0 j.alone bound j.right outcome since c.1 c.2 c.3 c.4,
         );
       }

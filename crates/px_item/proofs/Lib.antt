@@ -9,5 +9,6 @@ pub mod Newly
 pub mod Ordering
 pub mod Passing
 pub mod Plain
+pub mod Selecting
 pub mod Sought
 pub mod Starting

@@ -15,7 +15,7 @@ use Rattle.px_item.specs.declared.answered.Asked.{Asked}
 use Rattle.px_item.specs.declared.item.ItemState.TheVariants as state
 use Rattle.px_item.specs.declared.item.ItemTurn.TheVariants as turn
 use Rattle.px_item.specs.Right as right
-use Rattle.px_item.specs.Right.{IsCommandRead, IsOrdered, IsRight, command_of, plain}
+use Rattle.px_item.specs.Right.{IsCommandRead, IsOrdered, IsRight, command_ordering, plain}
 use Rattle.px_item.specs.Turns.{FitsItem, ItemTurns}
 use Rattle.px_item.proofs.Plain.{order_since_plain, undone_plain}
 use Rattle.px_item.proofs.Passing.{longer, of_ran, first_low, first_within, and_then}
@@ -31,10 +31,10 @@ module _ (sound : Type 0) (before : ℕ) (asked : Asked) (mine : List Act) where
       → ItemTurns sound before asked mine k k' (turn.Stepped (record { asked = asked; state = state.Ordering new }))
   order_goes_on ordered done old new k k' f t l =
       let later = of_ran k k' t.acts t.ran in
-      let read = subst (λ (job : Ordered). IsCommandRead (seen_piece asked.piece) (Ok (command_of job))) (sym (same_job ordered done old new l)) f.state in
+      let read = subst (λ (job : Ordered). IsCommandRead (seen_piece asked.piece) (Ok (command_ordering job))) (sym (same_job ordered done old new l)) f.state in
       record { acts = t.acts; ran = t.ran; told = (refl, record { begins = f.begins; within = longer k k' asked.first later f.within; state = read; done = and_then mine [] t.acts f.done ∙ is_quiet (ot.Stepped new) t.acts t.added }) }
 
-  order_told : (job : Ordered) (k : Known) (own : List Act) (r : Result (Unit {0}) OrderFault) (a : Answered) → IsCommandRead (seen_piece asked.piece) (Ok (command_of job)) → orders.IsOrderOutcome k r → orders.IsOrderSinceThen before k (ot.Over r)
+  order_told : (job : Ordered) (k : Known) (own : List Act) (r : Result (Unit {0}) OrderFault) (a : Answered) → IsCommandRead (seen_piece asked.piece) (Ok (command_ordering job)) → orders.IsOrderOutcome k r → orders.IsOrderSinceThen before k (ot.Over r)
       → IsOrdered asked job r a → own ≡ [] → IsRight sound (plain k) before own asked.settings (seen_piece asked.piece) a
   order_told job k own (Ok u) a read out since c quiet = right.is_ordered job read out c.1 quiet
   order_told job k own (Err e) a read out since c quiet = right.is_not_ordered job e read (undone_plain e k out) (order_since_plain before e k since) c.1 quiet

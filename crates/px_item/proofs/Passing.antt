@@ -35,7 +35,7 @@ use Rattle.px_item.specs.declared.answered.Asked.{Asked}
 use Rattle.px_item.specs.declared.answered.Settings.{Settings}
 use Rattle.px_item.specs.declared.item.ItemState.{ItemState}
 use Rattle.px_item.specs.declared.item.ItemState.TheVariants as state
-use Rattle.px_item.specs.Right.{AsksToCommit, IsBoundTo, changes, deletion_query, definition_of, table_named}
+use Rattle.px_item.specs.Right.{AsksToCommit, IsBoundTo, changes, deletion_query, definition_asked, table_named}
 use Rattle.px_item.specs.Turns.{FitsItem, FitsState, IsCreating, IsDefining}
 use Rattle.px_upkeep.proofs.Whole as upkeep
 use Rattle.px_item.specs.Builds.{IsBuiltBehind, IsNumberOf, StandsAs}
@@ -102,7 +102,7 @@ commit_since : (n : ℕ) (r : CommitRun) (k k' : Known) → TimePasses k k' → 
 commit_since n Rattle.px_commanding.specs.declared.commit.CommitRun.TheVariants.Finding k k' h i = longer k k' n (of_passes k k' h) i
 commit_since n (Rattle.px_commanding.specs.declared.commit.CommitRun.TheVariants.Changing run room) k k' h i = since_passes k k' run.state n h i
 
-pub asks_change : (f : Found) (x : Statement) (y : Definition) → definition_of f x ≡ Some y → changes x ≡ true
+pub asks_change : (f : Found) (x : Statement) (y : Definition) → definition_asked f x ≡ Some y → changes x ≡ true
 asks_change f (s.DropTable t) y h = refl
 asks_change f (s.DropIndex i) y h = refl
 asks_change f (s.CreateIndex t) y h = refl

@@ -1,5 +1,5 @@
 -- What is told of the trail alone doesn't depend on whether others act.
-use Rattle.std.proofs.Common.{ℕ, Bool, true, false, Option, None, Some, Result, Ok, Err, List, [], Vec, refl, sym, inl, inr}
+use Rattle.std.proofs.Common.{ℕ, ◌≡◌, ◌∙◌, ◌++◌, Bool, true, false, Option, None, Some, Result, Ok, Err, List, [], Vec, refl, sym, ap, subst, inl, inr}
 use Rattle.std.specs.Global.{Global}
 use Rattle.px_lex.specs.Script.{SeenPiece}
 use Rattle.px_item.specs.declared.answered.Settings.{Settings}
@@ -12,6 +12,8 @@ use Rattle.px_values.specs.declared.name.TableId.{TableId}
 use Rattle.px_tables.specs.declared.index.NewIndex.{NewIndex}
 use Rattle.px_tables.specs.declared.table.NewTable.{NewTable}
 use Rattle.px_trail.specs.declared.entry.Act.{Act}
+use Rattle.px_trail.specs.declared.entry.Entry.{Entry}
+use Rattle.px_trail.specs.Trail.{acts_by}
 use Rattle.px_trail.specs.Batches.{Batch}
 use Rattle.px_calls.specs.declared.definition.Definition.{Definition}
 use Rattle.px_calls.specs.declared.definition.Definition.TheVariants as d
@@ -21,7 +23,7 @@ use Rattle.px_calls.specs.declared.fault.StepFault.TheVariants as step
 use Rattle.px_calls.specs.declared.ticket.Receipt.{Receipt}
 use Rattle.px_calls.specs.Calls.{IsFinished}
 use Rattle.px_calls.specs.Causes.{batch_limit, definition_cause, new_index_cause, new_table_cause, rebuilding_cause}
-use Rattle.px_calls.specs.Known.{Known}
+use Rattle.px_calls.specs.Known.{Known, outline}
 use Rattle.px_batch.specs.Turns as batch
 use Rattle.px_batch.specs.declared.batch.BatchFault.{BatchFault}
 use Rattle.px_batch.specs.declared.batch.BatchFault.TheVariants as unmade
@@ -40,7 +42,7 @@ use Rattle.px_select.specs.Selecting.{IsSelectOutcome}
 use Rattle.px_select.specs.declared.run.Selected.{Selected}
 use Rattle.px_deleting.specs.Deleting as deleting
 use Rattle.px_deleting.specs.declared.deleted.Removed.{Removed}
-use Rattle.px_deleting.proofs.Past.{Later, all-later, found-later}
+use Rattle.px_deleting.proofs.Past.{Later, all-later, found-later, since-later}
 use Rattle.px_commanding.specs.Commits as commits
 use Rattle.px_commanding.specs.Counts as counts
 use Rattle.px_commanding.specs.declared.count.CountFault.{CountFault}
@@ -200,7 +202,7 @@ query_since_plain n unread.WriteFault k h = h
 query_since_plain n f k h = h
 
 pub outcome_plain : (sound : Type 0) (p : Planned) (scn : Option ℕ) (own : List Act) (k : Known) (r : Result Selected QueryFault) → IsSelectOutcome sound p scn own k r → IsSelectOutcome sound p scn own (plain k) r
-outcome_plain sound p scn own k (Ok a) h = (record { point = h.0.point; is_point = h.0.is_point; at = h.0.at; path = h.0.path; chosen = h.0.chosen; answer = h.0.answer }, h.1, h.2, h.3)
+outcome_plain sound p scn own k (Ok a) h = (record { point = h.0.point; is_point = h.0.is_point; at = h.0.at; path = h.0.path; chosen = h.0.chosen; taken = h.0.taken; answer = h.0.answer }, h.1, h.2, h.3)
 outcome_plain sound p scn own k (Err f) h = (query_plain (query_of p) scn f k h.0, h.1)
 
 later_plain : (k : Known) → Later k (plain k)
@@ -208,6 +210,14 @@ later_plain k = record { more = []; seen = sym (append-nil k.seen); base = refl;
 
 pub found_plain : (sound : Type 0) (p : Planned) (k : Known) (first : ℕ) (acts : List Act) (cs : List Change) → deleting.HasFoundRows sound p k first acts cs → deleting.HasFoundRows sound p (plain k) first acts cs
 found_plain sound p k first acts cs h = found-later sound p k (plain k) first acts cs (later_plain k) h
+
+since_plain : (sound : Type 0) (p : Planned) (k : Known) (first : ℕ) (acts : List Act) (cs : List Change) (f : deleting.HasFoundRows sound p k first acts cs) → (found-later sound p k (plain k) first acts cs (later_plain k) f).was.more ≡ f.was.more
+unfolding later_plain
+since_plain sound p k first acts cs f = since-later sound p k (plain k) first acts cs (later_plain k) f ∙ append-nil f.was.more
+
+did_plain : (sound : Type 0) (p : Planned) (k : Known) (first : ℕ) (found : List Act) (cs : List Change) (acts : List Act) (f : deleting.HasFoundRows sound p k first found cs) → outline (acts_by k.seat f.was.more) ≡ acts
+    → outline (acts_by k.seat (found-later sound p k (plain k) first found cs (later_plain k) f).was.more) ≡ acts
+did_plain sound p k first found cs acts f h = ap (λ (l : List Entry). outline (acts_by k.seat l)) (since_plain sound p k first found cs f) ∙ h
 
 pub removed_plain : (sound : Type 0) (p : Planned) (own : List Act) (k : Known) (rs : List Receipt) (m : Removed) → deleting.HasRemoved sound p own k rs m → deleting.HasRemoved sound p own (plain k) rs m
 removed_plain sound p own k rs m h =
@@ -222,10 +232,11 @@ removed_plain sound p own k rs m h =
       split = h.split;
       rows = h.rows;
       own_is = h.own_is;
+      found_first = did_plain sound p k m.first h.finding h.changes h.making h.found h.found_first;
     }
 
-pub stopped_plain : (sound : Type 0) (p : Planned) (own : List Act) (k : Known) (rs : List Receipt) (f : BatchFault) → deleting.HasStopped sound p own k rs f → deleting.HasStopped sound p own (plain k) rs f
-stopped_plain sound p own k rs f h =
+pub stopped_plain : (sound : Type 0) (p : Planned) (own : List Act) (k : Known) (rs told : List Receipt) (f : BatchFault) → told ≡ rs → deleting.HasStopped sound p own k rs f → deleting.HasStopped sound p own (plain k) told f
+stopped_plain sound p own k rs told f e h =
     let now = later_plain k in
     record {
       changes = h.changes;
@@ -236,12 +247,17 @@ stopped_plain sound p own k rs f h =
       making = h.making;
       stopping = h.stopping;
       found = found-later sound p k (plain k) h.first h.finding h.changes now h.found;
-      made = all-later k (plain k) p.table.id h.parts rs h.making now h.made;
+      made = subst (λ (l : List Receipt). deleting.AreMade (plain k) p.table.id h.parts l h.making) (sym e) (all-later k (plain k) p.table.id h.parts rs h.making now h.made);
       split = h.split;
       some = h.some;
       outcome = (batch_plain sound p.table.id (Rattle.std.specs.Prelude.take 1000 h.rest) f k h.outcome.0, h.outcome.1);
       own_is = h.own_is;
+      found_first = did_plain sound p k h.first h.finding h.changes (h.making ++ h.stopping) h.found h.found_first;
     }
+
+pub stopped_first : (sound : Type 0) (p : Planned) (own : List Act) (k : Known) (rs told : List Receipt) (f : BatchFault) (e : told ≡ rs) (h : deleting.HasStopped sound p own k rs f) → (stopped_plain sound p own k rs told f e h).first ≡ h.first
+unfolding stopped_plain
+stopped_first sound p own k rs told f e h = refl
 
 commit_plain : (sound : Type 0) (h : HeldData) (f : BatchFault) (k : Known) → commits.CommitFaultIs sound h f k → commits.CommitFaultIs sound h f (plain k)
 commit_plain sound h unmade.NoTable k i = i

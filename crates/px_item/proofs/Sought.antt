@@ -27,7 +27,7 @@ use Rattle.px_item.specs.declared.answered.Asked.{Asked}
 use Rattle.px_item.specs.declared.item.ItemState.TheVariants as state
 use Rattle.px_item.specs.declared.item.ItemTurn.TheVariants as turn
 use Rattle.px_item.specs.Right as right
-use Rattle.px_item.specs.Right.{IsBoundTo, IsOfNoOther, IsRead, IsRight, changes, deletion_query, plain, table_named}
+use Rattle.px_item.specs.Right.{IsBoundTo, IsOfNoOther, IsReadItem, IsRight, changes, deletion_query, plain, table_named}
 use Rattle.px_item.specs.Seeking.{IsSought, KeepsFound, KeepsRows}
 use Rattle.px_item.specs.Turns.{FitsItem, IsSeeking, ItemTurns}
 use Rattle.px_item.proofs.Passing.{Later, and_then, bound_later, first_low, first_within, longer, of_ran}
@@ -77,9 +77,9 @@ module _ (sound : Type 0) (before : ℕ) (asked : Asked) (mine : List Act) where
       }
 
   -- what the search of a DELETE came to
-  module _ (x : Statement) (run : SelectRun) (k k' : Known) (j : IsSeeking sound asked x run k) (later : Later k k') (read : IsRead (seen_piece asked.piece) (Ok x)) (free : asked.settings.scn ≡ None) (own : List Act) (a : Answered) (first : a.first ≡ asked.first) where
-    is_read : IsRead (seen_piece asked.piece) (Ok (s.Delete j.delete))
-    is_read = subst (λ (y : Statement). IsRead (seen_piece asked.piece) (Ok y)) j.is read
+  module _ (x : Statement) (run : SelectRun) (k k' : Known) (j : IsSeeking sound asked x run k) (later : Later k k') (read : IsReadItem (seen_piece asked.piece) (Ok x)) (free : asked.settings.scn ≡ None) (own : List Act) (a : Answered) (first : a.first ≡ asked.first) where
+    is_read : IsReadItem (seen_piece asked.piece) (Ok (s.Delete j.delete))
+    is_read = subst (λ (y : Statement). IsReadItem (seen_piece asked.piece) (Ok y)) j.is read
 
     bound : IsBoundTo k'.base k'.seen a.first j.found j.delete.table
     bound = subst (λ (n : ℕ). IsBoundTo k'.base k'.seen n j.found j.delete.table) (sym first) (bound_later k k' asked.first j.found j.delete.table later j.bound)
@@ -119,7 +119,7 @@ module _ (sound : Type 0) (before : ℕ) (asked : Asked) (mine : List Act) where
   sought_first x t (Ok r) a (inr c) = c.2.0
   sought_first x t (Err e) a c = c.0
 
-  sought_told : (x : Statement) (run : SelectRun) (k k' : Known) (t : Table) (own : List Act) (r : Result Selected QueryFault) (new : QueryState) (a : Answered) → (j : IsSeeking sound asked x run k) → Later k k' → IsRead (seen_piece asked.piece) (Ok x) → asked.settings.scn ≡ None
+  sought_told : (x : Statement) (run : SelectRun) (k k' : Known) (t : Table) (own : List Act) (r : Result Selected QueryFault) (new : QueryState) (a : Answered) → (j : IsSeeking sound asked x run k) → Later k k' → IsReadItem (seen_piece asked.piece) (Ok x) → asked.settings.scn ≡ None
       → selecting.IsSelectOutcome sound (deletion_query j.found j.delete) None own k' r → selecting.IsSelectSinceThen asked.first new k' (ended.Over r) → t ≡ run.scan.query.table → (c : IsSought asked x t r a) → IsRight sound (plain k') before own asked.settings (seen_piece asked.piece) a
   sought_told x run k k' t own (Ok r) new a j later read free out since of c =
       let same = table_is sound asked x run k t j of in

@@ -22,10 +22,10 @@ use Rattle.px_item.specs.declared.item.ItemRun.{ItemRun}
 use Rattle.px_item.specs.declared.item.ItemState.{ItemState}
 use Rattle.px_item.specs.declared.item.ItemState.TheVariants as state
 use Rattle.px_item.specs.Right as right
-use Rattle.px_item.specs.Right.{AsksCommit, AsksToCommit, IsAtOnce, IsCreationIf, IsRead, MayRun, SaysRefused, is_answer_built}
+use Rattle.px_item.specs.Right.{AsksCommit, AsksToCommit, IsAtOnce, IsCreationIf, IsReadItem, MayRun, SaysRefused, is_answer_built}
 use Rattle.px_item.specs.Turns.{FitsItem, FitsState, HasBegun, IsItemBegun, IsStart}
 
-pub refused_so : (st : Settings) (p : SeenPiece) (x : Statement) (r : Refusal) (a : Answered) → IsRead p (Ok x) → MayRun st x → is_answer_built x ≡ true → IsCreationIf x (Some (Err r)) → SaysRefused a r st → IsAtOnce st p a
+pub refused_so : (st : Settings) (p : SeenPiece) (x : Statement) (r : Refusal) (a : Answered) → IsReadItem p (Ok x) → MayRun st x → is_answer_built x ≡ true → IsCreationIf x (Some (Err r)) → SaysRefused a r st → IsAtOnce st p a
 refused_so st p (s.CreateTable t) r a read free built (inl e) says = right.is_lacking (says.0 ∙ ap reply.Refused e, says.1, says.2, says.3)
 refused_so st p (s.CreateTable t) r a read free built (inr e) says = right.is_wrong_table t e.0 read built (free refl) e.1 (says.0 ∙ ap reply.Refused e.2, says.1, says.2, says.3)
 refused_so st p x r a read free built h says = absurd h

@@ -1,4 +1,5 @@
 pub mod Builds
 pub mod Right
 pub mod Seeking
+pub mod Selects
 pub mod Turns

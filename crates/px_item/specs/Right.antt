@@ -1,5 +1,5 @@
 -- What is right to answer to a statement or a session command, by what the seat has then seen.
-use Rattle.std.specs.Prelude.{ℕ, ◌≡◌, ◌≢◌, ◌≤◌, ◌<◌, ◌+◌, ◌-◌, ◌⊎◌, ◌&&◌, not, Bool, true, false, if◌then◌else◌, List, [], ◌∷◌, length, take, min, vec_capacity, Option, None, Some, Result, Ok, Err, Vec}
+use Rattle.std.specs.Prelude.{ℕ, ◌≡◌, ◌≢◌, ◌≤◌, ◌<◌, ◌+◌, ◌-◌, ◌⊎◌, ◌&&◌, not, Bool, true, false, if◌then◌else◌, List, [], ◌∷◌, length, take, min, Option, None, Some, Result, Ok, Err, Vec}
 use Rattle.std.specs.Global.{Global}
 use Rattle.std.specs.Option.{is_some, option_map}
 use Rattle.px_values.specs.Limits.{most_of}
@@ -22,6 +22,7 @@ use Rattle.px_parse.specs.Texts as texts
 use Rattle.px_parse.specs.declared.syntax.SyntaxFault.{SyntaxFault}
 use Rattle.px_parse.specs.declared.syntax.SyntaxFault.TheVariants as syntax
 use Rattle.px_commanding.specs.Commits as commits
+use Rattle.px_commanding.specs.Commits.{HasRoomForOne}
 use Rattle.px_commanding.specs.Counts as counts
 use Rattle.px_commanding.specs.declared.commit.CommitRun.TheVariants as committing
 use Rattle.px_commanding.specs.declared.count.CountFault.{CountFault}
@@ -340,18 +341,18 @@ definition_word (s.AlterIndex i) = altered_word i.action
 definition_word x = defined.TableDropped
 
 -- the definition that a statement asks for, with the table that it was bound to
-abbrev pub definition_of : Found → Statement → Option Definition
-definition_of f (s.DropTable t) = Some (d.DropTable f.table.id)
-definition_of f (s.CreateIndex i) = Some (d.Index (new_index f.table i))
-definition_of f (s.DropIndex i) = option_map (λ n. d.DropIndex f.table.id n) (index_id_named f.indexes i.name)
-definition_of f (s.AlterIndex i) = option_map (λ n. altered f.table.id i.action n) (index_id_named f.indexes i.name)
-definition_of f x = None
+abbrev pub definition_asked : Found → Statement → Option Definition
+definition_asked f (s.DropTable t) = Some (d.DropTable f.table.id)
+definition_asked f (s.CreateIndex i) = Some (d.Index (new_index f.table i))
+definition_asked f (s.DropIndex i) = option_map (λ n. d.DropIndex f.table.id n) (index_id_named f.indexes i.name)
+definition_asked f (s.AlterIndex i) = option_map (λ n. altered f.table.id i.action n) (index_id_named f.indexes i.name)
+definition_asked f x = None
 
 -- ---- pieces
 
 -- the statement that a piece is, or why it is none
-abbrev pub IsRead : SeenPiece → Result Statement SyntaxFault → Type 0
-IsRead p r = (p.kind ≡ kinds.Statement) × ((xs : List Lexeme) × IsTextReading p.text xs × texts.AnswersStatement p.text xs r)
+abbrev pub IsReadItem : SeenPiece → Result Statement SyntaxFault → Type 0
+IsReadItem p r = (p.kind ≡ kinds.Statement) × ((xs : List Lexeme) × IsTextReading p.text xs × texts.AnswersStatement p.text xs r)
 
 -- the session command that a piece is behind its `!`, or why it is none
 abbrev pub IsCommandRead : SeenPiece → Result Command CommandFault → Type 0
@@ -360,18 +361,18 @@ IsCommandRead p r = (p.kind ≡ kinds.Command) × ((text : List ℕ) × (p.text 
 -- ---- answers
 
 -- it says this, rests on no receipt and no place, and leaves these settings to the next piece
-abbrev pub Says : Answered → Reply → Settings → Type 0
-Says a r st = (a.reply ≡ r) × (a.receipts ≡ []) × (a.places ≡ []) × (a.after ≡ next_is.Next st)
+abbrev pub SaysOnly : Answered → Reply → Settings → Type 0
+SaysOnly a r st = (a.reply ≡ r) × (a.receipts ≡ []) × (a.places ≡ []) × (a.after ≡ next_is.Next st)
 
 abbrev pub SaysRefused : Answered → Refusal → Settings → Type 0
-SaysRefused a r st = Says a (reply.Refused r) st
+SaysRefused a r st = SaysOnly a (reply.Refused r) st
 
 -- what a command is answered that makes no call: a commit makes none where nothing is held
 abbrev pub SaysOf : Settings → Command → Answered → Type 0
-SaysOf st (commands.Scn n) a = Says a (reply.Scn n) (with_scn st n)
-SaysOf st (commands.Autocommit true) a = (st.held ≡ None) × Says a (reply.Autocommit true) (with_autocommit st true)
-SaysOf st (commands.Autocommit false) a = Says a (reply.Autocommit false) (with_autocommit st false)
-SaysOf st commands.Commit a = (st.held ≡ None) × Says a (reply.Count 0 Affected) st
+SaysOf st (commands.Scn n) a = SaysOnly a (reply.Scn n) (with_scn st n)
+SaysOf st (commands.Autocommit true) a = (st.held ≡ None) × SaysOnly a (reply.Autocommit true) (with_autocommit st true)
+SaysOf st (commands.Autocommit false) a = SaysOnly a (reply.Autocommit false) (with_autocommit st false)
+SaysOf st commands.Commit a = (st.held ≡ None) × SaysOnly a (reply.Count 0 Affected) st
 SaysOf st c a = ⊥
 
 -- the command asks for a commit of what is held: to go on with the command itself, or for its own sake
@@ -380,9 +381,9 @@ AsksCommit p true = IsCommandRead p (Ok (commands.Autocommit true))
 AsksCommit p false = IsCommandRead p (Ok commands.Commit)
 
 -- the command that gives an order to upkeep, and what is told where it is done
-abbrev pub command_of : Ordered → Command
-command_of jobs.FlushAll = commands.Flush
-command_of jobs.CompactAll = commands.Compact
+abbrev pub command_ordering : Ordered → Command
+command_ordering jobs.FlushAll = commands.Flush
+command_ordering jobs.CompactAll = commands.Compact
 
 abbrev pub order_reply : Ordered → Reply
 order_reply jobs.FlushAll = reply.Flushed
@@ -391,11 +392,11 @@ order_reply jobs.CompactAll = reply.Compacted
 -- what is answered without a call
 pub data IsAtOnce (st : Settings) (p : SeenPiece) (a : Answered) : Type 0 where
   is_long : p.kind ≡ kinds.Statement → most_of bound.Statement < length p.text → SaysRefused a (refusal.Limit bound.Statement) st → IsAtOnce st p a
-  is_not_read : (e : SyntaxFault) → IsRead p (Err e) → SaysRefused a (syntax_refusal e) st → IsAtOnce st p a
-  is_not_built : (x : Statement) → IsRead p (Ok x) → is_answer_built x ≡ false → SaysRefused a refusal.Form st → IsAtOnce st p a
-  is_under_scn : (x : Statement) → IsRead p (Ok x) → changes x ≡ true → is_some st.scn ≡ true → SaysRefused a refusal.UnderScn st → IsAtOnce st p a
+  is_not_read : (e : SyntaxFault) → IsReadItem p (Err e) → SaysRefused a (syntax_refusal e) st → IsAtOnce st p a
+  is_not_built : (x : Statement) → IsReadItem p (Ok x) → is_answer_built x ≡ false → SaysRefused a refusal.Form st → IsAtOnce st p a
+  is_under_scn : (x : Statement) → IsReadItem p (Ok x) → changes x ≡ true → is_some st.scn ≡ true → SaysRefused a refusal.UnderScn st → IsAtOnce st p a
   -- a CREATE TABLE asks for no table that stands, and so what is wrong with it is told at once
-  is_wrong_table : (t : CreateTable) (fault : BindFault) → IsRead p (Ok (s.CreateTable t)) → is_none_of t.splits ≡ true → st.scn ≡ None → IsFirstBindFault (table_faults t) fault → SaysRefused a (bind_refusal fault) st → IsAtOnce st p a
+  is_wrong_table : (t : CreateTable) (fault : BindFault) → IsReadItem p (Ok (s.CreateTable t)) → is_none_of t.splits ≡ true → st.scn ≡ None → IsFirstBindFault (table_faults t) fault → SaysRefused a (bind_refusal fault) st → IsAtOnce st p a
   is_no_command : (e : CommandFault) → IsCommandRead p (Err e) → SaysRefused a (command_refusal e) st → IsAtOnce st p a
   is_command : (c : Command) → IsCommandRead p (Ok c) → SaysOf st c a → IsAtOnce st p a
   is_lacking : SaysRefused a refusal.Memory st → IsAtOnce st p a
@@ -461,7 +462,7 @@ pub record AreTooManyOf (t : Table) (cs : List Change) (st : Settings) : Type 0 
 pub record MakesWay (k : Known) (first : ℕ) (st : Settings) (p : SeenPiece) (h : HeldData) : Type 0 where
   pub statement : Statement
   pub found : Found
-  pub read : IsRead p (Ok statement)
+  pub read : IsReadItem p (Ok statement)
   pub free : st.scn ≡ None
   pub holds : MayHold st statement
   pub bound : IsBoundTo k.base k.seen first found (table_named statement)
@@ -515,19 +516,19 @@ StopsDelete r name f = (r ≡ reply.Refused (batch_refusal name f)) ⊎ ((r ≡ 
 -- what is right, where `own` is what the seat began, ended, opened, closed and defined for it since it had seen the first `before` entries
 pub data IsRight (sound : Type 0) (k : Known) (before : ℕ) (own : List Act) (st : Settings) (p : SeenPiece) (a : Answered) : Type 0 where
   is_at_once : IsAtOnce st p a → own ≡ [] → IsRight sound k before own st p a
-  is_unfound : (x : Statement) → IsRead p (Ok x) → MayRun st x → IsLacking k a.first (table_named x) → Says a (table_absent x) st → own ≡ [] → IsRight sound k before own st p a
-  is_closed : (x : Statement) (call : ℕ) → IsRead p (Ok x) → ClosedBy call k → SaysRefused a (refusal.Closed call) st → own ≡ [] → IsRight sound k before own st p a
-  is_wrong : (x : Statement) (f : Found) (fault : BindFault) → IsRead p (Ok x) → MayRun st x → IsBoundTo k.base k.seen a.first f (table_named x) → IsFirstBindFault (faults_in f x) fault → SaysRefused a (bind_refusal fault) st → own ≡ []
+  is_unfound : (x : Statement) → IsReadItem p (Ok x) → MayRun st x → IsLacking k a.first (table_named x) → SaysOnly a (table_absent x) st → own ≡ [] → IsRight sound k before own st p a
+  is_closed : (x : Statement) (call : ℕ) → IsReadItem p (Ok x) → ClosedBy call k → SaysRefused a (refusal.Closed call) st → own ≡ [] → IsRight sound k before own st p a
+  is_wrong : (x : Statement) (f : Found) (fault : BindFault) → IsReadItem p (Ok x) → MayRun st x → IsBoundTo k.base k.seen a.first f (table_named x) → IsFirstBindFault (faults_in f x) fault → SaysRefused a (bind_refusal fault) st → own ≡ []
       → IsRight sound k before own st p a
   -- an UPSERT is one batch of one row, and its receipt is told
-  is_changed : (u : Upsert) (f : Found) (r : Receipt) → IsRead p (Ok (s.Upsert u)) → st.scn ≡ None → st.autocommit ≡ true → IsBoundTo k.base k.seen a.first f u.table → upsert_faults f.table u ≡ [] → batch.HasEndedBatch f.table.id (one_change f u) own k r
+  is_changed : (u : Upsert) (f : Found) (r : Receipt) → IsReadItem p (Ok (s.Upsert u)) → st.scn ≡ None → st.autocommit ≡ true → IsBoundTo k.base k.seen a.first f u.table → upsert_faults f.table u ≡ [] → batch.HasEndedBatch f.table.id (one_change f u) own k r
       → (a.reply ≡ reply.Count 1 Affected) × (a.receipts ≡ r ∷ []) × (a.places ≡ []) × (a.after ≡ next_is.Next st) → IsRight sound k before own st p a
-  is_not_changed : (u : Upsert) (f : Found) (fault : BatchFault) → IsRead p (Ok (s.Upsert u)) → st.scn ≡ None → st.autocommit ≡ true → IsBoundTo k.base k.seen a.first f u.table → upsert_faults f.table u ≡ [] → batch.BatchFaultIs sound f.table.id (one_change f u) fault k
+  is_not_changed : (u : Upsert) (f : Found) (fault : BatchFault) → IsReadItem p (Ok (s.Upsert u)) → st.scn ≡ None → st.autocommit ≡ true → IsBoundTo k.base k.seen a.first f u.table → upsert_faults f.table u ≡ [] → batch.BatchFaultIs sound f.table.id (one_change f u) fault k
       → batch.BatchFaultSince before fault k → batch.HasLeft f.table.id (one_change f u) fault own k → SaysRefused a (batch_refusal u.table fault) st → IsRight sound k before own st p a
   -- without autocommit an UPSERT is held, and nothing is done for it; or it isn't, where too many rows would be
-  is_held : (u : Upsert) (f : Found) (st' : Settings) → IsRead p (Ok (s.Upsert u)) → st.scn ≡ None → st.autocommit ≡ false → IsBoundTo k.base k.seen a.first f u.table → upsert_faults f.table u ≡ [] → IsHolding f.table (upsert_change f.table u) st st'
-      → Says a (reply.Count 1 Held) st' → own ≡ [] → IsRight sound k before own st p a
-  is_full : (u : Upsert) (f : Found) → IsRead p (Ok (s.Upsert u)) → st.scn ≡ None → st.autocommit ≡ false → IsBoundTo k.base k.seen a.first f u.table → upsert_faults f.table u ≡ [] → IsFullOf f.table (upsert_change f.table u) st.held
+  is_held : (u : Upsert) (f : Found) (st' : Settings) → IsReadItem p (Ok (s.Upsert u)) → st.scn ≡ None → st.autocommit ≡ false → IsBoundTo k.base k.seen a.first f u.table → upsert_faults f.table u ≡ [] → IsHolding f.table (upsert_change f.table u) st st'
+      → SaysOnly a (reply.Count 1 Held) st' → own ≡ [] → IsRight sound k before own st p a
+  is_full : (u : Upsert) (f : Found) → IsReadItem p (Ok (s.Upsert u)) → st.scn ≡ None → st.autocommit ≡ false → IsBoundTo k.base k.seen a.first f u.table → upsert_faults f.table u ≡ [] → IsFullOf f.table (upsert_change f.table u) st.held
       → SaysRefused a (refusal.Limit bound.Rows) st → own ≡ [] → IsRight sound k before own st p a
   -- a commit is one batch of exactly what is held, and its receipt is told; whatever came of it, nothing is held then
   is_committed : (again : Bool) (h : HeldData) (rs : Vec Receipt Global) → st.held ≡ Some h → AsksToCommit k a.first st p h again → commits.IsCommitOutcome sound h own k (Ok rs)
@@ -536,51 +537,51 @@ pub data IsRight (sound : Type 0) (k : Known) (before : ℕ) (own : List Act) (s
   is_not_committed : (again : Bool) (h : HeldData) (fault : BatchFault) → st.held ≡ Some h → AsksToCommit k a.first st p h again → commits.IsCommitOutcome sound h own k (Err fault) → batch.BatchFaultSince before fault k
       → StopsDelete a.reply h.name fault → (a.receipts ≡ []) × (a.places ≡ []) × (a.after ≡ next_is.Next (emptied st)) → IsRight sound k before own st p a
   -- a status tells of the table that was found
-  is_counted : (name : List ℕ) (s : Status) → IsCommandRead p (Ok (commands.Status name)) → counts.IsCountOutcome a.first name k (Ok s) → Says a (reply.Status s) st → own ≡ [] → IsRight sound k before own st p a
+  is_counted : (name : List ℕ) (s : Status) → IsCommandRead p (Ok (commands.Status name)) → counts.IsCountOutcome a.first name k (Ok s) → SaysOnly a (reply.Status s) st → own ≡ [] → IsRight sound k before own st p a
   is_not_counted : (name : List ℕ) (fault : CountFault) → IsCommandRead p (Ok (commands.Status name)) → counts.IsCountOutcome a.first name k (Err fault) → counts.CountFaultSince before fault k
       → SaysRefused a (count_refusal name fault) st ⊎ SaysRefused a refusal.Memory st → own ≡ [] → IsRight sound k before own st p a
   -- an order is done, where upkeep had nothing left to do on a server that isn't closed
-  is_ordered : (job : Ordered) → IsCommandRead p (Ok (command_of job)) → IsRunning k → Says a (order_reply job) st → own ≡ [] → IsRight sound k before own st p a
-  is_not_ordered : (job : Ordered) (fault : OrderFault) → IsCommandRead p (Ok (command_of job)) → orders.OrderFaultIs fault k → orders.OrderFaultSince before fault k → SaysRefused a (order_refusal fault) st → own ≡ [] → IsRight sound k before own st p a
+  is_ordered : (job : Ordered) → IsCommandRead p (Ok (command_ordering job)) → IsRunning k → SaysOnly a (order_reply job) st → own ≡ [] → IsRight sound k before own st p a
+  is_not_ordered : (job : Ordered) (fault : OrderFault) → IsCommandRead p (Ok (command_ordering job)) → orders.OrderFaultIs fault k → orders.OrderFaultSince before fault k → SaysRefused a (order_refusal fault) st → own ≡ [] → IsRight sound k before own st p a
   -- a DROP, and an ALTER INDEX that disables one, is one entry
-  is_defined : (x : Statement) (f : Found) (m : Made) (e : Definition) → IsRead p (Ok x) → st.scn ≡ None → IsBoundTo k.base k.seen a.first f (table_named x) → faults_in f x ≡ [] → definition_of f x ≡ Some e → to_build e ≡ None → define.HasDefined e own k m
-      → Says a (reply.Defined (definition_word x)) st → IsRight sound k before own st p a
-  is_not_defined : (x : Statement) (f : Found) (fault : DefineFault) (e : Definition) → IsRead p (Ok x) → st.scn ≡ None → IsBoundTo k.base k.seen a.first f (table_named x) → faults_in f x ≡ [] → definition_of f x ≡ Some e → define.DefinitionFaultIs e fault k
-      → define.DefinitionFaultSince before fault k → own ≡ [] → Says a (undefined x fault) st → IsRight sound k before own st p a
+  is_defined : (x : Statement) (f : Found) (m : Made) (e : Definition) → IsReadItem p (Ok x) → st.scn ≡ None → IsBoundTo k.base k.seen a.first f (table_named x) → faults_in f x ≡ [] → definition_asked f x ≡ Some e → to_build e ≡ None → define.HasDefined e own k m
+      → SaysOnly a (reply.Defined (definition_word x)) st → IsRight sound k before own st p a
+  is_not_defined : (x : Statement) (f : Found) (fault : DefineFault) (e : Definition) → IsReadItem p (Ok x) → st.scn ≡ None → IsBoundTo k.base k.seen a.first f (table_named x) → faults_in f x ≡ [] → definition_asked f x ≡ Some e → define.DefinitionFaultIs e fault k
+      → define.DefinitionFaultSince before fault k → own ≡ [] → SaysOnly a (undefined x fault) st → IsRight sound k before own st p a
   -- a CREATE INDEX, and an ALTER INDEX that builds one again, is one entry and then a build, at whose end the index stood active as it was asked for; or the build is refused, and leaves the index as is told there
-  is_index_built : (x : Statement) (f : Found) (e : Definition) (t : TableId) (m c : Made) (rest : List Act) → IsRead p (Ok x) → st.scn ≡ None → IsBoundTo k.base k.seen a.first f (table_named x) → faults_in f x ≡ [] → definition_of f x ≡ Some e → to_build e ≡ Some t
-      → IsBuiltBehind a.first e m own rest k → (built : building.IsBuildOutcome sound m.at t (index_id_made m) rest k (Ok c)) → IsAskedFor e built.0.index → Says a (reply.Defined (definition_word x)) st → IsRight sound k before own st p a
-  is_index_not_built : (x : Statement) (f : Found) (e : Definition) (t : TableId) (m : Made) (rest : List Act) (fault : BuildFault) → IsRead p (Ok x) → st.scn ≡ None → IsBoundTo k.base k.seen a.first f (table_named x) → faults_in f x ≡ [] → definition_of f x ≡ Some e → to_build e ≡ Some t
-      → IsBuiltBehind a.first e m own rest k → building.IsBuildOutcome sound m.at t (index_id_made m) rest k (Err fault) → Says a (not_built x fault) st ⊎ SaysRefused a refusal.Memory st → IsRight sound k before own st p a
+  is_index_built : (x : Statement) (f : Found) (e : Definition) (t : TableId) (m c : Made) (rest : List Act) → IsReadItem p (Ok x) → st.scn ≡ None → IsBoundTo k.base k.seen a.first f (table_named x) → faults_in f x ≡ [] → definition_asked f x ≡ Some e → to_build e ≡ Some t
+      → IsBuiltBehind a.first e m own rest k → (built : building.IsBuildOutcome sound m.at t (index_id_made m) rest k (Ok c)) → IsAskedFor e built.0.index → SaysOnly a (reply.Defined (definition_word x)) st → IsRight sound k before own st p a
+  is_index_not_built : (x : Statement) (f : Found) (e : Definition) (t : TableId) (m : Made) (rest : List Act) (fault : BuildFault) → IsReadItem p (Ok x) → st.scn ≡ None → IsBoundTo k.base k.seen a.first f (table_named x) → faults_in f x ≡ [] → definition_asked f x ≡ Some e → to_build e ≡ Some t
+      → IsBuiltBehind a.first e m own rest k → building.IsBuildOutcome sound m.at t (index_id_made m) rest k (Err fault) → SaysOnly a (not_built x fault) st ⊎ SaysRefused a refusal.Memory st → IsRight sound k before own st p a
   -- a CREATE TABLE is one entry
-  is_created : (t : CreateTable) (m : Made) → IsRead p (Ok (s.CreateTable t)) → is_none_of t.splits ≡ true → st.scn ≡ None → table_faults t ≡ [] → define.HasDefined (d.Table (new_table t)) own k m → Says a (reply.Defined defined.TableCreated) st
+  is_created : (t : CreateTable) (m : Made) → IsReadItem p (Ok (s.CreateTable t)) → is_none_of t.splits ≡ true → st.scn ≡ None → table_faults t ≡ [] → define.HasDefined (d.Table (new_table t)) own k m → SaysOnly a (reply.Defined defined.TableCreated) st
       → IsRight sound k before own st p a
-  is_not_created : (t : CreateTable) (fault : DefineFault) → IsRead p (Ok (s.CreateTable t)) → is_none_of t.splits ≡ true → st.scn ≡ None → table_faults t ≡ [] → define.DefinitionFaultIs (d.Table (new_table t)) fault k → define.DefinitionFaultSince before fault k → own ≡ []
-      → Says a (undefined (s.CreateTable t) fault) st → IsRight sound k before own st p a
-  is_index_absent : (i : DropIndex) (f : Found) → IsRead p (Ok (s.DropIndex i)) → st.scn ≡ None → IsBoundTo k.base k.seen a.first f i.table → i.if_exists ≡ true → index_id_named f.indexes i.name ≡ None → Says a (reply.Defined defined.IndexAbsent) st → own ≡ []
+  is_not_created : (t : CreateTable) (fault : DefineFault) → IsReadItem p (Ok (s.CreateTable t)) → is_none_of t.splits ≡ true → st.scn ≡ None → table_faults t ≡ [] → define.DefinitionFaultIs (d.Table (new_table t)) fault k → define.DefinitionFaultSince before fault k → own ≡ []
+      → SaysOnly a (undefined (s.CreateTable t) fault) st → IsRight sound k before own st p a
+  is_index_absent : (i : DropIndex) (f : Found) → IsReadItem p (Ok (s.DropIndex i)) → st.scn ≡ None → IsBoundTo k.base k.seen a.first f i.table → i.if_exists ≡ true → index_id_named f.indexes i.name ≡ None → SaysOnly a (reply.Defined defined.IndexAbsent) st → own ≡ []
       → IsRight sound k before own st p a
   -- a SELECT is answered at a point, by a path that is chosen there: exactly, under an SCN; and else as it is current
-  is_selected : (q : Select) (f : Found) (x : Planned) (r : Selected) → IsRead p (Ok (s.Select q)) → IsBoundTo k.base k.seen before f q.table → IsAskedOf f q x → selecting.IsSelectOutcome sound x st.scn own k (Ok r) → SaysRows a r st
+  is_selected : (q : Select) (f : Found) (x : Planned) (r : Selected) → IsReadItem p (Ok (s.Select q)) → IsBoundTo k.base k.seen before f q.table → IsAskedOf f q x → selecting.IsSelectOutcome sound x st.scn own k (Ok r) → SaysRows a r st
       → IsRight sound k before own st p a
-  is_not_selected : (q : Select) (f : Found) (x : Planned) (fault : QueryFault) → IsRead p (Ok (s.Select q)) → IsBoundTo k.base k.seen before f q.table → IsAskedOf f q x → selecting.IsSelectOutcome sound x st.scn own k (Err fault) → scan.QueryFaultSince before fault k
+  is_not_selected : (q : Select) (f : Found) (x : Planned) (fault : QueryFault) → IsReadItem p (Ok (s.Select q)) → IsBoundTo k.base k.seen before f q.table → IsAskedOf f q x → selecting.IsSelectOutcome sound x st.scn own k (Err fault) → scan.QueryFaultSince before fault k
       → SaysRefused a (query_refusal q.table fault) st ⊎ SaysRefused a refusal.Memory st → IsRight sound k before own st p a
-  -- a DELETE removes the rows that a current query found, in batches, and their receipts are told with the number of rows
-  is_deleted : (x : Delete) (f : Found) (m : Removed) → IsRead p (Ok (s.Delete x)) → st.scn ≡ None → st.autocommit ≡ true → IsBoundTo k.base k.seen a.first f x.table → delete_faults f.table.columns x ≡ [] → deleting.HasRemoved sound (deletion_query f x) own k a.receipts m
+  -- a DELETE removes the rows that a current query found before the first of its batches, and their receipts are told with the number of rows
+  is_deleted : (x : Delete) (f : Found) (m : Removed) → IsReadItem p (Ok (s.Delete x)) → st.scn ≡ None → st.autocommit ≡ true → IsBoundTo k.base k.seen a.first f x.table → delete_faults f.table.columns x ≡ [] → deleting.HasRemoved sound (deletion_query f x) own k a.receipts m
       → a.first ≤ m.first → (a.reply ≡ reply.Count m.rows Affected) × (a.places ≡ []) × (a.after ≡ next_is.Next st) → IsRight sound k before own st p a
-  -- one of its batches isn't made, and none behind it; the receipts of those before it are told
-  is_not_deleted : (x : Delete) (f : Found) (fault : BatchFault) → IsRead p (Ok (s.Delete x)) → st.scn ≡ None → st.autocommit ≡ true → IsBoundTo k.base k.seen a.first f x.table → delete_faults f.table.columns x ≡ [] → deleting.HasStopped sound (deletion_query f x) own k a.receipts fault
-      → batch.BatchFaultSince a.first fault k → StopsDelete a.reply x.table fault → (a.places ≡ []) × (a.after ≡ next_is.Next st) → IsRight sound k before own st p a
+  -- one of its batches isn't made, and none behind it; its rows were found within the item, and the receipts of the batches before it are told
+  is_not_deleted : (x : Delete) (f : Found) (fault : BatchFault) → IsReadItem p (Ok (s.Delete x)) → st.scn ≡ None → st.autocommit ≡ true → IsBoundTo k.base k.seen a.first f x.table → delete_faults f.table.columns x ≡ [] → (h : deleting.HasStopped sound (deletion_query f x) own k a.receipts fault)
+      → (a.first ≤ h.first) × batch.BatchFaultSince a.first fault k → StopsDelete a.reply x.table fault → (a.places ≡ []) × (a.after ≡ next_is.Next st) → IsRight sound k before own st p a
   -- its rows weren't found, and none is removed, and no removal held
-  is_not_found : (x : Delete) (f : Found) (fault : QueryFault) → IsRead p (Ok (s.Delete x)) → st.scn ≡ None → IsBoundTo k.base k.seen a.first f x.table → delete_faults f.table.columns x ≡ [] → selecting.IsSelectOutcome sound (deletion_query f x) None own k (Err fault)
+  is_not_found : (x : Delete) (f : Found) (fault : QueryFault) → IsReadItem p (Ok (s.Delete x)) → st.scn ≡ None → IsBoundTo k.base k.seen a.first f x.table → delete_faults f.table.columns x ≡ [] → selecting.IsSelectOutcome sound (deletion_query f x) None own k (Err fault)
       → scan.QueryFaultSince a.first fault k → SaysRefused a (query_refusal x.table fault) st ⊎ SaysRefused a refusal.Memory st → IsRight sound k before own st p a
   -- without autocommit the removals of the rows that a current query found are held with what was held; or none of them is, where too many rows would be
-  are_held : (x : Delete) (f : Found) (first : ℕ) (cs : List Change) (st' : Settings) → IsRead p (Ok (s.Delete x)) → st.scn ≡ None → st.autocommit ≡ false → IsBoundTo k.base k.seen a.first f x.table → delete_faults f.table.columns x ≡ []
-      → deleting.HasFoundRows sound (deletion_query f x) k first own cs → a.first ≤ first → IsHoldingAll f.table cs st st' → Says a (reply.Count (length cs) Held) st' → IsRight sound k before own st p a
-  are_too_many : (x : Delete) (f : Found) (first : ℕ) (cs : List Change) → IsRead p (Ok (s.Delete x)) → st.scn ≡ None → st.autocommit ≡ false → IsBoundTo k.base k.seen a.first f x.table → delete_faults f.table.columns x ≡ []
+  are_held : (x : Delete) (f : Found) (first : ℕ) (cs : List Change) (st' : Settings) → IsReadItem p (Ok (s.Delete x)) → st.scn ≡ None → st.autocommit ≡ false → IsBoundTo k.base k.seen a.first f x.table → delete_faults f.table.columns x ≡ []
+      → deleting.HasFoundRows sound (deletion_query f x) k first own cs → a.first ≤ first → IsHoldingAll f.table cs st st' → SaysOnly a (reply.Count (length cs) Held) st' → IsRight sound k before own st p a
+  are_too_many : (x : Delete) (f : Found) (first : ℕ) (cs : List Change) → IsReadItem p (Ok (s.Delete x)) → st.scn ≡ None → st.autocommit ≡ false → IsBoundTo k.base k.seen a.first f x.table → delete_faults f.table.columns x ≡ []
       → deleting.HasFoundRows sound (deletion_query f x) k first own cs → a.first ≤ first → AreTooManyOf f.table cs st → SaysRefused a (refusal.Limit bound.Rows) st → IsRight sound k before own st p a
   -- an EXPLAIN tells the path by the definitions alone
-  is_explained : (q : Select) (f : Found) (x : Plan) → IsRead p (Ok (s.Explain q)) → IsBoundTo k.base k.seen a.first f q.table → IsPlanned f st.scn q (Ok x) → Says a (reply.Explained (explained x)) st → own ≡ [] → IsRight sound k before own st p a
-  is_not_explained : (q : Select) (f : Found) → IsRead p (Ok (s.Explain q)) → IsBoundTo k.base k.seen a.first f q.table → IsPlanned f st.scn q (Err IndexJoin) → SaysRefused a refusal.IndexJoin st → own ≡ [] → IsRight sound k before own st p a
+  is_explained : (q : Select) (f : Found) (x : Plan) → IsReadItem p (Ok (s.Explain q)) → IsBoundTo k.base k.seen a.first f q.table → IsPlanned f st.scn q (Ok x) → SaysOnly a (reply.Explained (explained x)) st → own ≡ [] → IsRight sound k before own st p a
+  is_not_explained : (q : Select) (f : Found) → IsReadItem p (Ok (s.Explain q)) → IsBoundTo k.base k.seen a.first f q.table → IsPlanned f st.scn q (Err IndexJoin) → SaysRefused a refusal.IndexJoin st → own ≡ [] → IsRight sound k before own st p a
 
 -- a piece is asked once more: what was held was committed, and is held no more
 pub record MadeWay (st st' : Settings) (r : Reply) : Type 0 where
@@ -592,10 +593,10 @@ pub record MadeWay (st st' : Settings) (r : Reply) : Type 0 where
 
 abbrev pub ReadsAs : Settings → SeenPiece → ℕ → Read → Type 0
 ReadsAs st p first (read.Told a) = IsAtOnce st p a × (a.first ≡ first)
-ReadsAs st p first (read.Asks asked x) = (seen_piece asked.piece ≡ p) × (asked.settings ≡ st) × (asked.first ≡ first) × IsRead p (Ok x) × MayRun st x × (is_answer_built x ≡ true)
+ReadsAs st p first (read.Asks asked x) = (seen_piece asked.piece ≡ p) × (asked.settings ≡ st) × (asked.first ≡ first) × IsReadItem p (Ok x) × MayRun st x × (is_answer_built x ≡ true)
 ReadsAs st p first (read.Commits asked again) = (seen_piece asked.piece ≡ p) × (asked.settings ≡ st) × (asked.first ≡ first) × AsksCommit p again × (st.held ≢ None)
 ReadsAs st p first (read.Counts asked name) = (seen_piece asked.piece ≡ p) × (asked.settings ≡ st) × (asked.first ≡ first) × IsCommandRead p (Ok (commands.Status name))
-ReadsAs st p first (read.Orders asked job) = (seen_piece asked.piece ≡ p) × (asked.settings ≡ st) × (asked.first ≡ first) × IsCommandRead p (Ok (command_of job))
+ReadsAs st p first (read.Orders asked job) = (seen_piece asked.piece ≡ p) × (asked.settings ≡ st) × (asked.first ≡ first) × IsCommandRead p (Ok (command_ordering job))
 
 -- what a CREATE TABLE asks for, or the first of all that is wrong with it
 abbrev pub IsCreation : CreateTable → Result DefineRun Refusal → Type 0
@@ -608,9 +609,6 @@ IsCreationIf (s.CreateTable t) (Some r) = IsCreation t r
 IsCreationIf (s.CreateTable t) None = ⊥
 IsCreationIf x (Some r) = ⊥
 IsCreationIf x None = Unit {0}
-
-abbrev pub HasRoomForOne : Vec Receipt Global → Type 0
-HasRoomForOne v = (v.items ≡ []) × (0 < vec_capacity v)
 
 -- what comes of a batch of one change of this table
 abbrev pub IsBatchOfOne : Table → TableId → Change → Next → Type 0
@@ -668,7 +666,7 @@ IsFitFor t e = Unit {0}
 -- what comes of a statement whose table was found
 abbrev pub IsNext : Option ℕ → Found → Statement → Next → Type 0
 IsNext scn f x (next.Change run room) = (u : Upsert) × (x ≡ s.Upsert u) × (upsert_faults f.table u ≡ []) × (run.table ≡ f.table.id) × (run.changes ≡ one_change f u) × (run.state ≡ batches.Beginning) × IsChangeOf f.table (upsert_change f.table u) × HasRoomForOne room
-IsNext scn f x (next.Define run) = (faults_in f x ≡ []) × (definition_of f x ≡ Some run.definition) × (run.state ≡ defines.Defining) × IsFitFor f.table run.definition
+IsNext scn f x (next.Define run) = (faults_in f x ≡ []) × (definition_asked f x ≡ Some run.definition) × (run.state ≡ defines.Defining) × IsFitFor f.table run.definition
 IsNext scn f x (next.Select run) = (q : Select) × (x ≡ s.Select q) × IsAskedOf f q run.scan.query × (run.scan.scn ≡ scn) × scanning.IsQueryNew run.scan.state × IsScn scn
 IsNext scn f x (next.Delete run) = (y : Delete) × (x ≡ s.Delete y) × (delete_faults f.table.columns y ≡ []) × deleting.IsDeleteNew (deletion_query f y) run.state
 IsNext scn f x (next.Tell r) = IsTold scn f x r
@@ -689,7 +687,7 @@ FollowsTo scn x f (state.Ordering run) = ⊥
 abbrev pub FollowsFound : Asked → Statement → Found → ItemTurn → Type 0
 FollowsFound asked x f (turn.Stepped r) = (r.asked ≡ asked) × FollowsTo asked.settings.scn x f r.state
 FollowsFound asked x f (turn.Waiting r) = ⊥
-FollowsFound asked x f (turn.Over a) = (a.first ≡ asked.first) × ((r : Reply) × IsTold asked.settings.scn f x r × Says a r asked.settings)
+FollowsFound asked x f (turn.Over a) = (a.first ≡ asked.first) × ((r : Reply) × IsTold asked.settings.scn f x r × SaysOnly a r asked.settings)
 
 -- what was held is to be committed before
 abbrev pub GoesToCommit : Asked → TableId → ItemState → Type 0
@@ -700,7 +698,7 @@ GoesToCommit asked t st = ⊥
 abbrev pub Keeps : Asked → Table → Change → ItemTurn → Type 0
 Keeps asked t c (turn.Stepped r) = (r.asked ≡ asked) × GoesToCommit asked t.id r.state
 Keeps asked t c (turn.Waiting r) = ⊥
-Keeps asked t c (turn.Over a) = (a.first ≡ asked.first) × (SaysRefused a refusal.Memory asked.settings ⊎ (((st' : Settings) × IsHolding t c asked.settings st' × Says a (reply.Count 1 Held) st') ⊎ (IsFullOf t c asked.settings.held × SaysRefused a (refusal.Limit bound.Rows) asked.settings)))
+Keeps asked t c (turn.Over a) = (a.first ≡ asked.first) × (SaysRefused a refusal.Memory asked.settings ⊎ (((st' : Settings) × IsHolding t c asked.settings st' × SaysOnly a (reply.Count 1 Held) st') ⊎ (IsFullOf t c asked.settings.held × SaysRefused a (refusal.Limit bound.Rows) asked.settings)))
 
 -- what comes of an UPSERT whose table was found, where its row is held
 abbrev pub Holds : Asked → Statement → Found → ItemTurn → Type 0
@@ -715,12 +713,12 @@ IsChanged asked x (Ok r) a = IsOneRow asked r a
 IsChanged asked x (Err f) a = (a.first ≡ asked.first) × (SaysRefused a (batch_refusal (table_named x) f) asked.settings ⊎ (SaysRefused a refusal.Memory asked.settings × (f ≡ unmade.NoTable)))
 
 abbrev pub IsDefined : Asked → Statement → Result Made DefineFault → Answered → Type 0
-IsDefined asked x (Ok m) a = (a.first ≡ asked.first) × Says a (reply.Defined (definition_word x)) asked.settings
-IsDefined asked x (Err f) a = (a.first ≡ asked.first) × (Says a (undefined x f) asked.settings ⊎ SaysRefused a refusal.Memory asked.settings)
+IsDefined asked x (Ok m) a = (a.first ≡ asked.first) × SaysOnly a (reply.Defined (definition_word x)) asked.settings
+IsDefined asked x (Err f) a = (a.first ≡ asked.first) × (SaysOnly a (undefined x f) asked.settings ⊎ SaysRefused a refusal.Memory asked.settings)
 
 abbrev pub IsBuilt : Asked → Statement → Result Made BuildFault → Answered → Type 0
-IsBuilt asked x (Ok m) a = (a.first ≡ asked.first) × Says a (reply.Defined (definition_word x)) asked.settings
-IsBuilt asked x (Err why) a = (a.first ≡ asked.first) × (Says a (not_built x why) asked.settings ⊎ SaysRefused a refusal.Memory asked.settings)
+IsBuilt asked x (Ok m) a = (a.first ≡ asked.first) × SaysOnly a (reply.Defined (definition_word x)) asked.settings
+IsBuilt asked x (Err why) a = (a.first ≡ asked.first) × (SaysOnly a (not_built x why) asked.settings ⊎ SaysRefused a refusal.Memory asked.settings)
 
 -- the build that follows a definition that was made
 abbrev pub IsBuildOf : Definition → Made → Option BuildRun → Type 0
@@ -760,10 +758,10 @@ IsCommitted asked again r a = (a.first ≡ asked.first) × ((h : HeldData) × (a
 
 -- what is told of the end of a status
 abbrev pub IsCounted : Asked → List ℕ → Result Status CountFault → Answered → Type 0
-IsCounted asked name (Ok x) a = (a.first ≡ asked.first) × Says a (reply.Status x) asked.settings
+IsCounted asked name (Ok x) a = (a.first ≡ asked.first) × SaysOnly a (reply.Status x) asked.settings
 IsCounted asked name (Err f) a = (a.first ≡ asked.first) × (SaysRefused a (count_refusal name f) asked.settings ⊎ SaysRefused a refusal.Memory asked.settings)
 
 -- what is told of the end of an order
 abbrev pub IsOrdered : Asked → Ordered → Result (Unit {0}) OrderFault → Answered → Type 0
-IsOrdered asked job (Ok u) a = (a.first ≡ asked.first) × Says a (order_reply job) asked.settings
+IsOrdered asked job (Ok u) a = (a.first ≡ asked.first) × SaysOnly a (order_reply job) asked.settings
 IsOrdered asked job (Err f) a = (a.first ≡ asked.first) × SaysRefused a (order_refusal f) asked.settings

@@ -1,5 +1,5 @@
 -- Parts of the way of a DELETE whose removals are held.
-use Rattle.std.specs.Prelude.{ℕ, ◌≡◌, ◌≤◌, ◌<◌, ◌⊎◌, List, [], length, Option, None, Result, Ok, Err}
+use Rattle.std.specs.Prelude.{◌≡◌, ◌≤◌, ◌<◌, ◌⊎◌, List, [], length, Option, None, Result, Ok, Err}
 use Rattle.px_values.specs.declared.change.Change.{Change}
 use Rattle.px_values.specs.declared.limit.Limit.TheVariants as bound
 use Rattle.px_values.specs.declared.name.TableId.{TableId}
@@ -25,7 +25,6 @@ use Rattle.px_select.specs.declared.run.Selected.{Selected}
 use Rattle.px_removals.specs.Removals.{AreRemovals}
 use Rattle.px_reply.specs.declared.refusal.Refusal.{Refusal}
 use Rattle.px_reply.specs.declared.refusal.Refusal.TheVariants as refusal
-use Rattle.px_reply.specs.declared.reply.Reply.{Reply}
 use Rattle.px_reply.specs.declared.reply.Reply.TheVariants as reply
 use Rattle.px_item.specs.declared.answered.Answered.{Answered}
 use Rattle.px_item.specs.declared.answered.Asked.{Asked}
@@ -34,7 +33,7 @@ use Rattle.px_item.specs.declared.item.ItemState.{ItemState}
 use Rattle.px_item.specs.declared.item.ItemState.TheVariants as state
 use Rattle.px_item.specs.declared.item.ItemTurn.{ItemTurn}
 use Rattle.px_item.specs.declared.item.ItemTurn.TheVariants as turn
-use Rattle.px_item.specs.Right.{AreTooManyOf, GoesToCommit, IsHoldingAll, IsOfNoOther, Says, SaysRefused, bind_refusal, deletion_query, query_refusal, table_named}
+use Rattle.px_item.specs.Right.{AreTooManyOf, GoesToCommit, IsHoldingAll, IsOfNoOther, SaysOnly, SaysRefused, bind_refusal, deletion_query, query_refusal, table_named}
 
 -- the query by which a DELETE finds the rows of this table, or the first of all that is wrong with it
 abbrev pub IsSearchOf : Found → Statement → Result Planned Refusal → Type 0
@@ -65,7 +64,7 @@ AddsRows t o cs o' (Err unheld.Memory) = o' ≡ o
 
 -- what is told of these removals of rows of the table
 abbrev pub KeepsRows : Asked → Table → List Change → Answered → Type 0
-KeepsRows asked t cs a = (a.first ≡ asked.first) × (SaysRefused a refusal.Memory asked.settings ⊎ (((st' : Settings) × IsHoldingAll t cs asked.settings st' × Says a (reply.Count (length cs) Held) st') ⊎ (AreTooManyOf t cs asked.settings × SaysRefused a (refusal.Limit bound.Rows) asked.settings)))
+KeepsRows asked t cs a = (a.first ≡ asked.first) × (SaysRefused a refusal.Memory asked.settings ⊎ (((st' : Settings) × IsHoldingAll t cs asked.settings st' × SaysOnly a (reply.Count (length cs) Held) st') ⊎ (AreTooManyOf t cs asked.settings × SaysRefused a (refusal.Limit bound.Rows) asked.settings)))
 
 -- what is told of the rows that were found
 abbrev pub KeepsFound : Asked → Table → Selected → Answered → Type 0

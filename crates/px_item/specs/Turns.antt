@@ -29,6 +29,7 @@ use Rattle.px_calls.specs.Known.{Known, Ran, outline}
 use Rattle.px_held.specs.HeldData.{HeldData}
 use Rattle.px_commands.specs.declared.command.Command.TheVariants as commands
 use Rattle.px_commanding.specs.Commits as commits
+use Rattle.px_commanding.specs.Commits.{HasRoomForOne}
 use Rattle.px_commanding.specs.Counts as counts
 use Rattle.px_commanding.specs.Orders as orders
 use Rattle.px_commanding.specs.declared.commit.CommitRun.{CommitRun}
@@ -53,11 +54,11 @@ use Rattle.px_item.specs.declared.item.ItemState.{ItemState}
 use Rattle.px_item.specs.declared.item.ItemState.TheVariants as state
 use Rattle.px_item.specs.declared.item.ItemTurn.{ItemTurn}
 use Rattle.px_item.specs.declared.item.ItemTurn.TheVariants as turn
-use Rattle.px_item.specs.Right.{AsksCommit, AsksToCommit, HasRoomForOne, IsAskedOf, MayRun, IsAtOnce, IsBoundTo, IsCommandRead, IsCreation, IsOfNoOther, IsRead, IsRight, command_of, creates_table, definition_of, is_none_of, one_change, order_reply, plain, deletion_query, table_named}
+use Rattle.px_item.specs.Right.{AsksCommit, AsksToCommit, IsAskedOf, MayRun, IsAtOnce, IsBoundTo, IsCommandRead, IsCreation, IsOfNoOther, IsReadItem, IsRight, command_ordering, creates_table, definition_asked, is_none_of, one_change, order_reply, plain, deletion_query, table_named}
 
 -- the statement was read, and may change something
 pub record IsAsking (asked : Asked) (x : Statement) : Type 0 where
-  pub read : IsRead (seen_piece asked.piece) (Ok x)
+  pub read : IsReadItem (seen_piece asked.piece) (Ok x)
   pub free : MayRun asked.settings x
 
 -- the batch of an UPSERT is under way
@@ -79,7 +80,7 @@ pub record IsDefining (sound : Type 0) (asked : Asked) (x : Statement) (run : De
   pub found : Found
   pub bound : IsBoundTo k.base k.seen asked.first found (table_named x)
   pub right : faults_in found x ≡ []
-  pub definition : definition_of found x ≡ Some run.definition
+  pub definition : definition_asked found x ≡ Some run.definition
   pub fits : define.FitsDefinition sound run.definition run.state k
   pub going : define.IsDefinitionGoing run.state
 
@@ -99,7 +100,7 @@ pub record IsBuilding (sound : Type 0) (asked : Asked) (own : List Act) (x : Sta
   pub bound : IsBoundTo k.base k.seen asked.first found (table_named x)
   pub right : faults_in found x ≡ []
   pub definition : Definition
-  pub asks : definition_of found x ≡ Some definition
+  pub asks : definition_asked found x ≡ Some definition
   pub table : TableId
   pub builds : to_build definition ≡ Some table
   pub made : Made
@@ -166,7 +167,7 @@ pub record IsCounting (asked : Asked) (name : List ℕ) (run : CountRun) (k : Kn
 
 -- an order is given, and being done
 abbrev pub IsOrdering : Asked → OrderRun → Type 0
-IsOrdering asked run = IsCommandRead (seen_piece asked.piece) (Ok (command_of (orders.job_of run)))
+IsOrdering asked run = IsCommandRead (seen_piece asked.piece) (Ok (command_ordering (orders.job_of run)))
 
 abbrev pub FitsState : Type 0 → ℕ → Asked → List Act → ItemState → Known → Type 0
 FitsState sound before asked own (state.Finding x) k = IsAsking asked x

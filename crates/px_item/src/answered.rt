@@ -1,6 +1,6 @@
 // What is asked, and what is answered.
 ghost use Rattle.std.specs.Prelude.{◌≡◌, []};
-ghost use Rattle.px_item.specs.Right.{Says};
+ghost use Rattle.px_item.specs.Right.{SaysOnly};
 
 use px_held::HeldChanges;
 use px_lex::script::Piece;
@@ -45,7 +45,7 @@ pub struct Answered {
 
 /// A reply that rests on no receipt.
 pub(crate) fn told(alloc: Global, reply: Reply, first: u64, after: Settings) -> Answered
-    ensures says { Says result reply after }
+    ensures says { SaysOnly result reply after }
     ensures first { result.first ≡ first }
 {
     Answered {
@@ -59,7 +59,7 @@ pub(crate) fn told(alloc: Global, reply: Reply, first: u64, after: Settings) -> 
 
 /// A refusal.
 pub(crate) fn refused(alloc: Global, refusal: Refusal, first: u64, after: Settings) -> Answered
-    ensures says { Says result (Reply.Refused refusal) after }
+    ensures says { SaysOnly result (Reply.Refused refusal) after }
     ensures first { result.first ≡ first }
 {
     told(alloc, Reply::Refused(refusal), first, after)

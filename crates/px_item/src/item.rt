@@ -3,7 +3,11 @@ ghost use Rattle.std.specs.Prelude.{◌≡◌, ℕ, true, false, List, Ok};
 ghost use Rattle.px_lex.specs.Script.{seen_piece};
 ghost use Rattle.px_trail.specs.declared.entry.Act.{Act};
 ghost use Rattle.px_calls.specs.declared.status.Ordered.{Ordered as Orders};
+ghost use Rattle.px_scan.specs.Fixes.{KeepsDoubts};
+ghost use Rattle.px_scan.specs.Looking.{IsByIndex, Looks};
+ghost use Rattle.px_commanding.specs.Commits.{HasRoomForOne};
 ghost use Rattle.px_item.specs.Right as spec;
+ghost use Rattle.px_item.specs.Selects.{IfSelect, IsSelectThen, ScansTo};
 ghost use Rattle.px_item.specs.Turns.{Begins, FitsItem, ItemTurns, TellsDone};
 
 use crate::answered::{After, Answered, Asked, Settings, told};
@@ -98,7 +102,7 @@ pub fn begin<'a>(alloc: Global, piece: Piece<'a>, settings: Settings, first: u64
 
 /// Begins a statement that is built. A CREATE TABLE is bound, and the table of any other is to be found. It makes no call.
 fn start<'a>(alloc: Global, asked: Asked<'a>, statement: Statement) -> Begun<'a>
-    requires read { spec.IsRead (seen_piece asked.piece) (Ok statement) }
+    requires read { spec.IsReadItem (seen_piece asked.piece) (Ok statement) }
     requires free { spec.MayRun asked.settings statement }
     requires built { spec.is_answer_built statement ≡ true }
     ensures { Begins asked.entry.settings (seen_piece asked.entry.piece) asked.entry.first result }
@@ -121,7 +125,7 @@ fn start<'a>(alloc: Global, asked: Asked<'a>, statement: Statement) -> Begun<'a>
 
 /// What is told without a receipt.
 pub(crate) fn over(alloc: Global, asked: Asked<'_>, reply: Reply) -> Answered
-    ensures says { spec.Says result reply asked.entry.settings }
+    ensures says { spec.SaysOnly result reply asked.entry.settings }
     ensures first { result.first ≡ asked.entry.first }
 {
     let Asked {
@@ -197,7 +201,7 @@ fn one_row(
     mut receipts: Vec<Receipt>,
     alloc: Global,
 ) -> Answered
-    requires room { spec.HasRoomForOne receipts }
+    requires room { HasRoomForOne receipts }
     ensures { spec.IsOneRow asked.entry receipt result }
 {
     let Asked {
@@ -226,7 +230,7 @@ fn changed(
     receipts: Vec<Receipt>,
     came: Result<Receipt, BatchFault>,
 ) -> Answered
-    requires room { spec.HasRoomForOne receipts }
+    requires room { HasRoomForOne receipts }
     ensures { spec.IsChanged asked.entry statement came result }
 {
     match came {
@@ -481,6 +485,9 @@ fn select<'a, S: Steps>(
 ) -> ItemTurn<'a>
     requires { (before : ℕ) × (own : List Act) × FitsItem S.sound before asked own (ItemState.Selecting statement run) (S.known s.old) }
     ensures turns { (before : ℕ) → (own : List Act) → FitsItem S.sound before asked.entry own (ItemState.Selecting statement run) (S.known s.old) → ItemTurns S.sound before asked.entry own (S.known s.old) (S.known s.new) result }
+    ensures scans { IsSelectThen run result (λ q. ScansTo S.sound run (S.known s.old) (S.known s.new) q) }
+    ensures looks { (S.known s.old).alone ≡ true → IsByIndex run.scan.state → IsSelectThen run result (λ q. Looks S.sound run.scan.state (S.known s.old) (S.looked s.old) q (S.known s.new) (S.looked s.new)) }
+    ensures doubts { (S.known s.old).alone ≡ true → S.sound → IsSelectThen run result (λ q. KeepsDoubts run.scan.state (S.known s.old) (S.doubtful s.old) q (S.known s.new) (S.doubtful s.new)) }
     ensures one_call { S.one_call s.old s.new }
 {
     match run.step(s) {
@@ -563,6 +570,11 @@ impl<'a> ItemRun<'a> {
 
         // That an order is done is told only where it is.
         ensures done { (before : ℕ) → (own : List Act) → FitsItem S.sound before self.entry.asked own self.entry.state (S.known s.old) → (job : Orders) → TellsDone job result → S.done s.new job }
+
+        // A step of a SELECT is one of its query. What that looks at and repairs is told where nobody else acts.
+        ensures scans { IfSelect self.entry.state (λ run. IsSelectThen run result (λ q. ScansTo S.sound run (S.known s.old) (S.known s.new) q)) }
+        ensures looks { (S.known s.old).alone ≡ true → IfSelect self.entry.state (λ run. IsByIndex run.scan.state → IsSelectThen run result (λ q. Looks S.sound run.scan.state (S.known s.old) (S.looked s.old) q (S.known s.new) (S.looked s.new))) }
+        ensures doubts { (S.known s.old).alone ≡ true → S.sound → IfSelect self.entry.state (λ run. IsSelectThen run result (λ q. KeepsDoubts run.scan.state (S.known s.old) (S.doubtful s.old) q (S.known s.new) (S.doubtful s.new))) }
         ensures one_call { S.one_call s.old s.new }
     {
         let ItemRun { asked, state } = self;

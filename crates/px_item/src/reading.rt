@@ -55,7 +55,7 @@ fn parsed<'a>(
     first: u64,
     statement: Statement,
 ) -> Read<'a>
-    requires { spec.IsRead (seen_piece piece) (Ok statement) }
+    requires { spec.IsReadItem (seen_piece piece) (Ok statement) }
     ensures { spec.ReadsAs settings (seen_piece piece.entry) first result }
 {
     if !is_built(&statement) {
@@ -90,7 +90,7 @@ fn read_statement<'a>(alloc: Global, piece: Piece<'a>, settings: Settings, first
 
 /// What is asked under the settings with autocommit so.
 fn switched(alloc: Global, on: bool, settings: Settings, first: u64) -> Answered
-    ensures says { spec.Says result (Reply.Autocommit on) (spec.with_autocommit settings on) }
+    ensures says { spec.SaysOnly result (Reply.Autocommit on) (spec.with_autocommit settings on) }
     ensures first { result.first ≡ first }
 {
     let Settings {
@@ -108,7 +108,7 @@ fn switched(alloc: Global, on: bool, settings: Settings, first: u64) -> Answered
 
 /// What is asked under the settings with this SCN.
 fn read_as_of(alloc: Global, scn: Option<u64>, settings: Settings, first: u64) -> Answered
-    ensures says { spec.Says result (Reply.Scn scn) (spec.with_scn settings scn) }
+    ensures says { spec.SaysOnly result (Reply.Scn scn) (spec.with_scn settings scn) }
     ensures first { result.first ≡ first }
 {
     let Settings {
@@ -126,7 +126,7 @@ fn read_as_of(alloc: Global, scn: Option<u64>, settings: Settings, first: u64) -
 
 /// No changes are held, and none is committed.
 fn none_committed(alloc: Global, settings: Settings, first: u64) -> Answered
-    ensures says { spec.Says result (Reply.Count 0 Affected) settings }
+    ensures says { spec.SaysOnly result (Reply.Count 0 Affected) settings }
     ensures first { result.first ≡ first }
 {
     let reply = Reply::Count {

@@ -8,7 +8,6 @@ use Rattle.px_script.specs.declared.piece.Span.{Span}
 use Rattle.px_trail.specs.declared.entry.Act.{Act}
 use Rattle.px_calls.specs.Known.{Known, Ran}
 use Rattle.px_reply.specs.declared.transcript.Item.{Item}
-use Rattle.px_item.specs.declared.answered.After.{After}
 use Rattle.px_item.specs.declared.answered.Answered.{Answered}
 use Rattle.px_item.specs.declared.answered.Settings.{Settings}
 use Rattle.px_item.specs.declared.item.ItemRun.{ItemRun}

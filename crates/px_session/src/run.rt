@@ -4,8 +4,12 @@ ghost use Rattle.std.specs.List.{All, slice_get};
 ghost use Rattle.px_lex.specs.Script.{seen_piece};
 ghost use Rattle.px_script.specs.Pieces.{span_of};
 ghost use Rattle.px_calls.specs.Known.{Known};
+ghost use Rattle.px_scan.specs.Fixes.{KeepsDoubts};
+ghost use Rattle.px_scan.specs.Looking.{IsByIndex, Looks};
+ghost use Rattle.px_item.specs.Selects.{IfSelect, ScansTo};
 ghost use Rattle.px_session.specs.declared.state.SessionState.{SessionState as States};
 ghost use Rattle.px_session.specs.Replies as replies;
+ghost use Rattle.px_session.specs.Selects.{IfSelecting, IsSelectingThen};
 ghost use Rattle.px_session.specs.Live.{ArePlaced, IsOverAt, IsPushed, IsSameSession, IsSessionLive, StartsFrom, StepsOn, UnderWay, makes_call, with_doing};
 
 use crate::state::{Ending, SessionState, is_fatal, state_after};
@@ -227,6 +231,9 @@ impl<'a> SessionRun<'a> {
         ensures steps { (began : States) → IsSessionLive S.sound (S.known s.old) began (with_doing self.old (Doing.Under run.entry span)) → StepsOn S.sound began (S.known s.old) (with_doing self.old (Doing.Under run.entry span)) (S.known s.new) self.new }
         ensures over { IsOverAt result self.new.ending }
         ensures calls { makes_call result ≡ true }
+        ensures scans { IfSelect run.entry.state (λ x. IsSelectingThen x self.new.doing (λ q. ScansTo S.sound x (S.known s.old) (S.known s.new) q)) }
+        ensures looks { (S.known s.old).alone ≡ true → IfSelect run.entry.state (λ x. IsByIndex x.scan.state → IsSelectingThen x self.new.doing (λ q. Looks S.sound x.scan.state (S.known s.old) (S.looked s.old) q (S.known s.new) (S.looked s.new))) }
+        ensures doubts { (S.known s.old).alone ≡ true → S.sound → IfSelect run.entry.state (λ x. IsSelectingThen x self.new.doing (λ q. KeepsDoubts x.scan.state (S.known s.old) (S.doubtful s.old) q (S.known s.new) (S.doubtful s.new))) }
         ensures one_call { S.one_call s.old s.new }
     {
         match run.step(rt, alloc, s) {
@@ -255,6 +262,9 @@ impl<'a> SessionRun<'a> {
         requires live { (began : States) × IsSessionLive S.sound (S.known s.old) began self.old }
         ensures steps { (began : States) → IsSessionLive S.sound (S.known s.old) began self.old → StepsOn S.sound began (S.known s.old) self.old (S.known s.new) self.new }
         ensures over { IsOverAt result self.new.ending }
+        ensures scans { IfSelecting self.old.doing (λ run. IsSelectingThen run self.new.doing (λ q. ScansTo S.sound run (S.known s.old) (S.known s.new) q)) }
+        ensures looks { (S.known s.old).alone ≡ true → IfSelecting self.old.doing (λ run. IsByIndex run.scan.state → IsSelectingThen run self.new.doing (λ q. Looks S.sound run.scan.state (S.known s.old) (S.looked s.old) q (S.known s.new) (S.looked s.new))) }
+        ensures doubts { (S.known s.old).alone ≡ true → S.sound → IfSelecting self.old.doing (λ run. IsSelectingThen run self.new.doing (λ q. KeepsDoubts run.scan.state (S.known s.old) (S.doubtful s.old) q (S.known s.new) (S.doubtful s.new))) }
         ensures one_call { makes_call result ≡ true → S.one_call s.old s.new }
         ensures no_call { makes_call result ≡ false → s.new ≡ s.old }
     {

@@ -1,4 +1,4 @@
-use Rattle.std.proofs.Common.{refl, ◌∙◌, ap, not, true, false}
+use Rattle.std.proofs.Common.{◌∙◌, ap, not, true, false}
 use Rattle.px_lex.specs.Script.{seen_piece}
 use Rattle.px_commands.specs.declared.command.Command.TheVariants as commands
 use Rattle.px_item.proofs.Starting.{commanded_so, none_is}
