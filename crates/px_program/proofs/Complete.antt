@@ -45,7 +45,7 @@ use Rattle.px_program.specs.declared.status.Status.TheVariants.{Done}
 use Rattle.px_verified.specs.declared.asked.Verification.{Verification}
 use Rattle.px_program.proofs.Items.{IsFair}
 use Rattle.px_program.proofs.Verified.{fair as fair_verification}
-use Rattle.px_program.proofs.Balanced.{IsBalanced, balanced-none, batches_ended, points_closed}
+use Rattle.px_alone.proofs.Balanced.{IsBalanced, balanced-none, batches_ended, points_closed}
 use Rattle.px_program.proofs.Sessions.{fresh_going, or_none, rounds_balanced, rounds_told, whole_rounds}
 
 -- ---- 1. Replies

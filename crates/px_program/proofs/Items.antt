@@ -73,7 +73,7 @@ use Rattle.px_session.specs.Replies.{is_fatal}
 use Rattle.px_server.specs.Kept.{has_told, tells_fault}
 use Rattle.px_program.specs.Status.{is_of_disk, refused_by}
 use Rattle.px_program.specs.Run.{undamaged}
-use Rattle.px_program.proofs.Balanced.{IsBalanced, balanced-batch, balanced-definition, balanced-none, balanced-point, balanced-append, balanced-state, balanced-tries, balanced-within}
+use Rattle.px_alone.proofs.Balanced.{IsBalanced, balanced-batch, balanced-definition, balanced-none, balanced-point, balanced-append, balanced-state, balanced-tries, balanced-within}
 
 -- ---- 1. Entries that tell of the disk
 

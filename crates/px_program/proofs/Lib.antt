@@ -1,7 +1,7 @@
-pub mod Balanced
 pub mod Complete
 pub mod Flat
 pub mod Items
+pub mod OneSession
 pub mod Ran
 pub mod Serving
 pub mod Sessions

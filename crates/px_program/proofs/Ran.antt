@@ -39,6 +39,7 @@ use Rattle.px_program.specs.declared.outcome.Outcome.{Outcome}
 use Rattle.px_program.specs.declared.status.Status.{Status}
 use Rattle.px_program.specs.declared.status.Status.TheVariants.{BadWords, Memory, SourceFault}
 use Rattle.px_program.proofs.Complete.{complete, job_ended}
+use Rattle.px_program.proofs.OneSession.{run_folds}
 
 -- a disk of the premise of a run, on which no call is made
 pub keeps_still : {D : Type 0} (d : DiskGhosts D) (disk : D) → ((moment file : ℕ) (bytes : List ℕ) → d.left disk moment file bytes → moment ≤ d.calls disk) → StartsSound d disk → KeepsFolder d disk disk
@@ -262,6 +263,7 @@ module _ {D C I O : Type 0} (d : DiskGhosts D) (c : ClockGhosts C) (s : SourceGh
     seat = r.over.seat;
     sink_failed = r.over.sink_failed;
     items_are_replied = r.over.replied;
+    one_session_folds = run_folds (IsSoundFolder r.folder) (known_over (base_of r.folder) r.over.seat o.trail.entries) job o.transcripts r.over.sink_failed o.memory (d.first_fault o.disk) o.status refl r.over.legal r.over.replied r.over.status;
     bytes_are_printed = r.over.written;
     stops_recover = λ starts moment image left. r.over.recovers (starts_reads d disk starts) moment image (inl starts, left);
     opened = r.opened;

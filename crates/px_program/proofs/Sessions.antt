@@ -34,7 +34,7 @@ use Rattle.px_server.specs.Kept.{has_told}
 use Rattle.px_program.specs.Complete.{AreItemsOf, AreWholeRounds, IsCommit, IsWhole, IsWholeRound}
 use Rattle.px_program.specs.Run.{undamaged}
 use Rattle.px_program.specs.Status.{is_of_disk, items_of, refused_by, some_refused_by}
-use Rattle.px_program.proofs.Balanced.{IsBalanced, balanced-append, balanced-none}
+use Rattle.px_alone.proofs.Balanced.{IsBalanced, balanced-append, balanced-none}
 use Rattle.px_program.proofs.Flat.{any_of}
 use Rattle.px_program.proofs.Items.{fair, told_front}
 
@@ -100,7 +100,7 @@ record AreFair (k : Known) (n m : ℕ) (items : List Item) : Type 0 where
   balanced : has_fatal items ≡ false → IsBalanced (own_since k.seat n (take m k.seen))
 
 module _ (sound : Type 0) where
-  forward : (k : Known) (n : ℕ) (at : Standing) (items : List Item) (m : ℕ) (to : Standing) → AreReplied sound k n at items m to → n ≤ m
+  pub forward : (k : Known) (n : ℕ) (at : Standing) (items : List Item) (m : ℕ) (to : Standing) → AreReplied sound k n at items m to → n ≤ m
   forward k n at [] m to h = (let e = h.0 in omega arith)
   forward k n at (i ∷ is) m to h = (let a = h.4.begins in let b = h.4.ends in let c = forward k i.evidence.last (onward h.2 h.0 h.1) is m to h.5 in omega arith)
 
@@ -144,7 +144,7 @@ module _ (sound : Type 0) where
         let at = any_at (λ (t : Transcript). some_refused_by is_of_disk t.items) ts (any_of (λ (i : Item). refused_by is_of_disk i.reply) ts ∙ tell) in
         (at_seat from to number states round ts states' memory h at.0 at.1 at.2).told at.3
 
-    round_balanced : (from to number : ℕ) (states : List SessionState) (round : List SessionText) (ts : List Transcript) (states' : List SessionState) (memory : Bool) → HasRound sound k from to number states round ts states' memory → has_fatal (items_of ts) ≡ false
+    pub round_balanced : (from to number : ℕ) (states : List SessionState) (round : List SessionText) (ts : List Transcript) (states' : List SessionState) (memory : Bool) → HasRound sound k from to number states round ts states' memory → has_fatal (items_of ts) ≡ false
         → (seat : ℕ) → IsBalanced (own_since seat from (take to k.seen))
     round_balanced from to number states round ts states' memory h go zero = subst IsBalanced (sym (ap outline (h.others zero (inl refl)))) balanced-none
     round_balanced from to number states round ts states' memory h go (suc i) = ⊎_elim
@@ -172,7 +172,7 @@ module _ (sound : Type 0) where
     rounds_told from number states [] (ts ∷ tss) to states' memory h tell = absurd h
     rounds_told from number states (r ∷ rs) [] to states' memory h tell = absurd h
 
-    rounds_forward : (from number : ℕ) (states : List SessionState) (rounds : List (List SessionText)) (tss : List (List Transcript)) (to : ℕ) (states' : List SessionState) (memory : Bool) → AreRounds sound k from number states rounds tss to states' memory → from ≤ to
+    pub rounds_forward : (from number : ℕ) (states : List SessionState) (rounds : List (List SessionText)) (tss : List (List Transcript)) (to : ℕ) (states' : List SessionState) (memory : Bool) → AreRounds sound k from number states rounds tss to states' memory → from ≤ to
     rounds_forward from number states [] [] to states' memory h = (let e = h.0 in omega arith)
     rounds_forward from number states (r ∷ rs) (ts ∷ tss) to states' memory h = (let a = h.2.forward in let b = rounds_forward h.0 (number + 1) h.1 rs tss to states' memory h.3 in omega arith)
     rounds_forward from number states [] (ts ∷ tss) to states' memory h = absurd h
@@ -208,7 +208,7 @@ fresh_going n i st is = all n i is
     all (suc n) (suc i) e = all n i e
 
 -- a session ends whole, unless it is stopped or memory is lacked
-ended_whole : (e : Ending) (left : List SeenPiece) (items : List Item) → e ≢ Memory → EndsAs e left items → has_fatal items ≡ false → (e ≡ Whole) × (left ≡ [])
+pub ended_whole : (e : Ending) (left : List SeenPiece) (items : List Item) → e ≢ Memory → EndsAs e left items → has_fatal items ≡ false → (e ≡ Whole) × (left ≡ [])
 ended_whole Whole left items lacks h go = (refl, h.0)
 ended_whole Fatal left items lacks h go =
     absurd (false≢true (sym go ∙ (ap has_fatal h.is ∙ (list_any-append (λ (j : Item). is_fatal j.reply) h.before (h.item ∷ []) ∙ (ap (λ (v : Bool). v || (is_fatal h.item.reply || false)) h.quiet ∙ ap (λ (v : Bool). v || false) h.fatal)))))

@@ -42,7 +42,7 @@ use Rattle.px_verified.specs.Verified.{HasVerified, IsRightVerification, refusal
 use Rattle.px_program.specs.Answers.{AnswersVerification, one_item}
 use Rattle.px_program.specs.Run.{undamaged}
 use Rattle.px_program.specs.Status.{is_of_disk, refused_by}
-use Rattle.px_program.proofs.Balanced.{IsBalanced, balanced-append, balanced-definition, balanced-none, balanced-point, balanced-state, balanced-within}
+use Rattle.px_alone.proofs.Balanced.{IsBalanced, balanced-append, balanced-definition, balanced-none, balanced-point, balanced-state, balanced-within}
 use Rattle.px_program.proofs.Items.{IsFair, closed_by, told_by, told_more, tried_balanced, tries_balanced, undamaged_at}
 
 -- 1. Parts are balanced

@@ -42,8 +42,8 @@ one_item end reply first last = record { session = 1; round = 1; items = item_ov
 abbrev pub stopped_by : ScriptFault → ℕ → List Transcript
 stopped_by fault n = one_item n (Refused (refusal_of_script fault)) 0 0
 
-abbrev pub HasRoomForOne : Room → Type 0
-HasRoomForOne room = (room.transcripts.items ≡ []) × (0 < vec_capacity room.transcripts) × (room.items.items ≡ []) × (0 < vec_capacity room.items)
+abbrev pub HasRoomToTell : Room → Type 0
+HasRoomToTell room = (room.transcripts.items ≡ []) × (0 < vec_capacity room.transcripts) × (room.items.items ≡ []) × (0 < vec_capacity room.items)
 
 -- Nothing of the script is run, and session 1 is told why, unless no memory was found to keep that. The trail has no entry from the place `from` on
 pub record IsStopped (k : Known) (from : ℕ) (script : List ℕ) (ts : List Transcript) (memory : Bool) : Type 0 where

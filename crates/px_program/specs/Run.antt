@@ -11,6 +11,7 @@ use Rattle.px_trail.specs.declared.entry.Entry.{Entry}
 use Rattle.px_trail.specs.Legal.{IsLegal}
 use Rattle.px_trail.specs.Trail.{Base, closing_call}
 use Rattle.px_calls.specs.Known.{Known}
+use Rattle.px_alone.specs.Alone.{AreQuiet}
 use Rattle.px_reply.specs.declared.transcript.Transcript.{Transcript}
 use Rattle.px_catalog.specs.Catalogue.{catalogue_files}
 use Rattle.px_recovery.specs.Base.{IsSound, IsSoundFolder, base_of}
@@ -31,6 +32,7 @@ use Rattle.px_verified.specs.declared.asked.Verification.{Verification}
 use Rattle.px_program.specs.Answers.{AnswersJob, printed_for}
 use Rattle.px_program.specs.Complete.{IsComplete}
 use Rattle.px_program.specs.Ended.{AllEnded}
+use Rattle.px_program.specs.OneSession.{FoldsJob, HasRunAll}
 use Rattle.px_program.specs.Status.{causes_of, is_memory_status, items_of, status_of}
 use Rattle.px_program.specs.declared.job.Job.{Job}
 use Rattle.px_program.specs.declared.job.Job.TheVariants as jobs
@@ -185,6 +187,8 @@ pub record IsRun {D C I O : Type 0} (d : DiskGhosts D) (c : ClockGhosts C) (s : 
   pub seat : ℕ
   pub sink_failed : Bool
   pub items_are_replied : AnswersJob (IsSoundFolder folder) (known_over (base_of folder) seat left.outcome.trail.entries) 0 job left.outcome.transcripts sink_failed left.outcome.memory
+  -- where the script names one session, they are the fold over its statements, on what the folder stood for
+  pub one_session_folds : IsSoundFolder folder → HasRunAll left.outcome.status → AreQuiet (items_of left.outcome.transcripts) → FoldsJob (base_of folder) left.outcome.trail.entries job left.outcome.transcripts
   pub bytes_are_printed : IsTextWritten k given.out left.out (printed_for job left.outcome.transcripts) sink_failed left.outcome.memory
   -- each image that a stop may leave at a moment of the run stands for what was there then, or for this and the one entry under way
   pub stops_recover : StartsSound d given.disk → (moment : ℕ) (image : Image) → IsLeft d left.outcome.disk moment image → Recovers (base_of folder) left.outcome.trail.entries left.outcome.late moment image

@@ -1,13 +1,10 @@
 // The reply to a script of which nothing is run, and that to a verification.
 ghost use Rattle.std.specs.Prelude.{◌≡◌, IfOk};
 ghost use Rattle.px_program.specs.Answers as spec;
-ghost use Rattle.px_reply.specs.Printed.{printed};
-ghost use Rattle.px_rounds.specs.Written.{WritesRound};
 
-use px_outside::{Sink, write_all};
-use px_reply::{Evidence, Item, Refusal, Reply, Transcript, Transcripts, print_transcripts};
+use px_reply::{Evidence, Item, Refusal, Reply, Transcript, Transcripts};
 use px_script::{ScriptFault, Span};
-use px_values::{Items, Limit, Line};
+use px_values::{Items, Limit};
 use std::alloc::{AllocError, Global};
 
 /// How it is told that nothing of a script is run.
@@ -29,7 +26,7 @@ pub struct Room {
 
 /// Room for the one reply of a run.
 pub fn room_for_one(alloc: Global) -> Result<Room, AllocError>
-    ensures { IfOk result spec.HasRoomForOne }
+    ensures { IfOk result spec.HasRoomToTell }
 {
     let transcripts = Vec::with_capacity(alloc, 1)?;
     match Vec::with_capacity(alloc, 1) {
@@ -43,7 +40,7 @@ pub fn room_for_one(alloc: Global) -> Result<Room, AllocError>
 
 /// Session 1 is told in the first round, of a statement of so many bytes, from the entry `first` to the entry `last`.
 fn told(alloc: Global, room: Room, end: usize, reply: Reply, first: u64, last: u64) -> Transcripts
-    requires { spec.HasRoomForOne room }
+    requires { spec.HasRoomToTell room }
     ensures { result ≡ spec.one_item end reply first last }
 {
     let Room {
@@ -79,22 +76,8 @@ pub fn stopped(alloc: Global, fault: ScriptFault, len: usize) -> Result<Transcri
 
 /// Session 1 is told what a verification came to, which has no text.
 pub fn answered(alloc: Global, room: Room, reply: Reply, first: u64, last: u64) -> Transcripts
-    requires { spec.HasRoomForOne room }
+    requires { spec.HasRoomToTell room }
     ensures { result ≡ spec.one_item 0 reply first last }
 {
     told(alloc, room, 0, reply, first, last)
-}
-
-/// Writes the replies. Answers whether the sink failed, and whether no memory was found to print them.
-pub fn write_replies<O: Sink>(alloc: Global, answers: &Transcripts, out: &mut O) -> (bool, bool)
-    ensures { WritesRound ⟦<O as Sink>⟧ out.old out.new (printed answers.now) result.0 result.1 }
-{
-    let mut line = Line::new(alloc);
-    let Ok(()) = print_transcripts(answers, &mut line) else {
-        return (false, true);
-    };
-    match write_all(out, line.as_slice()) {
-        Ok(()) => (false, false),
-        Err(_) => (true, false),
-    }
 }

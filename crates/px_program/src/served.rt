@@ -5,10 +5,10 @@ ghost use Rattle.px_reply.specs.Printed.{printed};
 ghost use Rattle.px_rounds.specs.Turns.{TrailGoesOn};
 ghost use Rattle.px_rounds.specs.Written.{IsTextWritten};
 
-use crate::replies::{answered, room_for_one, stopped, write_replies};
+use crate::replies::{answered, room_for_one, stopped};
 use px_outside::Sink;
 use px_reply::Transcripts;
-use px_rounds::{NoGate, Rounds, run_rounds};
+use px_rounds::{NoGate, Rounds, run_rounds, write_round};
 use px_script::{ScriptFault, read_script};
 use px_seat::Single;
 use px_values::Items;
@@ -43,7 +43,7 @@ fn told<S: Single + Send, O: Sink>(
     ensures transcripts { result.transcripts ≡ transcripts }
     ensures written { IsTextWritten ⟦<O as Sink>⟧ out.old out.new (printed transcripts) result.sink_failed result.memory }
 {
-    let (sink_failed, memory) = write_replies(alloc, &transcripts, out);
+    let (sink_failed, memory) = write_round(alloc, &transcripts, out);
     Rounds {
         server,
         transcripts,

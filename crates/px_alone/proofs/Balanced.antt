@@ -9,6 +9,7 @@ use Rattle.px_tables.specs.declared.index.IndexState.{IndexState as BuildState}
 use Rattle.px_tables.specs.declared.index.IndexState.TheVariants.{Building}
 use Rattle.px_trail.specs.Batches.{Batch, batch_from, batch_of, batch_step, begun_batch}
 use Rattle.px_trail.specs.Trail.{acts_by, open_points, points_from, points_step}
+use Rattle.px_trail.proofs.Growth.{batch_from-append}
 use Rattle.px_trail.specs.declared.entry.Act.{Act}
 use Rattle.px_trail.specs.declared.entry.Act.TheVariants.{Begun, Ended, IndexState, Opened, Phase, Released, Wrote}
 use Rattle.px_trail.specs.declared.entry.Entry.{Entry}
@@ -229,7 +230,25 @@ open_by seat t s n (e ∷ es) =
       | false ↦ λ is. rw (points_other seat t s n e.seat e.act is) (open_by seat t s n es)
     ] refl
 
--- ---- 5. A trail in which each seat leaves nothing
+tells_done : (o : Option Batch) → ((y : Batch) → o ≡ Some y → y.ended ≡ true) → Tells (λ n. false) o
+unfolding Tells
+tells_done None h = tt
+tells_done (Some x) h = λ e. absurd (false≢true (sym e ∙ h x refl))
+
+-- ---- 5. Batches that have ended, and what each seat leaves behind them
+
+-- each batch has ended, and of what comes behind each seat ends what it begins
+pub ended-after : (es more : List Entry) → ((t s : ℕ) (y : Batch) → batch_of t s es ≡ Some y → y.ended ≡ true) → ((seat : ℕ) → IsBalanced (outline (acts_by seat more))) → (t s : ℕ) (y : Batch) → batch_of t s (es ++ more) ≡ Some y → y.ended ≡ true
+unfolding Tells
+ended-after es more done each t s y is = ⊎_elim (λ (h : y.ended ≡ true). h)
+    (λ (h : y.ended ≡ false).
+    let from : batch_from t s (batch_of t s es) more ≡ Some y = sym (batch_from-append t s None es more) ∙ is in
+    let on = going_from t s (λ n. false) (batch_of t s es) more y (tells_done (batch_of t s es) (done t s)) from h in
+    let off = sym (going-outline t s false (acts_by y.seat more)) ∙ (each y.seat).batches t s in
+    absurd (false≢true (sym off ∙ on)))
+    (cases_Bool y.ended)
+
+-- ---- 6. A trail in which each seat leaves nothing
 
 module _ (es : List Entry) (each : (seat : ℕ) → IsBalanced (outline (acts_by seat es))) where
   pub batches_ended : (t s : ℕ) (y : Batch) → batch_of t s es ≡ Some y → y.ended ≡ true

@@ -1,0 +1,13 @@
+pub mod Balanced
+pub mod Standing
+pub mod Rows
+pub mod Calm
+pub mod Outcomes
+pub mod Finding
+pub mod Balances
+pub mod Naming
+pub mod Forms
+pub mod Batching
+pub mod Removing
+pub mod Folding
+pub mod Idle
