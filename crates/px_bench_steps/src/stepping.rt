@@ -3,9 +3,9 @@ ghost use Rattle.std.specs.Prelude.{◌≡◌, ◌≢◌, ◌≤◌, [], true, l
 ghost use Rattle.px_trail.specs.Batches.{is_distinct, rows_of};
 ghost use Rattle.px_calls.specs.Requires.{AreFitting};
 
-use crate::making::{Batch, are_fitting};
 use px_batch::{BatchRun, BatchTurn};
 use px_calls::{Steps, Work};
+use px_tests_making::{Batch, are_fitting};
 use px_values::{Changes, Name, TableId};
 use std::alloc::Global;
 use std::rt::Runtime;
@@ -107,7 +107,7 @@ fn step_all<R: Runtime + Wait, S: Steps>(
 }
 
 /// Makes a batch, if its rows fit the table that has the name.
-#[tactic(auto, using(crate::proofs::Fitting::fitting))]
+#[tactic(auto, using(px_tests_making::proofs::Fitting::fitting))]
 fn make<R: Runtime + Wait, S: Steps>(
     rt: &R,
     s: &mut S,

@@ -1,7 +1,8 @@
 // Folders that are right.
 use crate::folders::{Found, LOG, ROW_LOG, define, index_body, opened, put};
 use px_opening::OpenFault;
-use px_outside::{Disk, MemDisk, Numbers};
+use px_outside::{DeviceCall, Disk, MemDisk, Numbers};
+use std::alloc::Global;
 use std::test::Fail;
 
 #[test]
@@ -40,7 +41,7 @@ fn rows_of_the_program_are_read(rt: HostRuntime) -> Result<(), Fail> {
 }
 
 // The index of a state, with a cell at a stamp in its region.
-fn with_index(alloc: std::alloc::Global, state: u8) -> Option<Result<Found, OpenFault>> {
+fn with_index(alloc: Global, state: u8) -> Option<Result<Found, OpenFault>> {
     let mut disk = MemDisk::new(alloc);
     // The key of ('b', 'a'): both texts with their ends. The status 1 at stamp 12.
     let cell = [
@@ -69,17 +70,42 @@ fn an_active_index_is_maintained_and_others_are_not(rt: HostRuntime) -> Result<(
     Ok(())
 }
 
+// The calls that an opening of an empty folder makes, in order.
+fn calls_of_opening(alloc: Global) -> Result<Vec<DeviceCall>, Fail> {
+    let mut disk = MemDisk::new(alloc);
+    if opened(alloc, &mut disk).is_err() {
+        return Err("not opened".into());
+    }
+    let mut calls = Vec::new(alloc);
+    for made in disk.calls_made() {
+        calls.push(made.call)?;
+    }
+    Ok(calls)
+}
+
+// What is told where that call fails.
+fn fault_of(call: DeviceCall) -> OpenFault {
+    match call {
+        DeviceCall::Len | DeviceCall::Read => OpenFault::ReadFault,
+        DeviceCall::Write | DeviceCall::Cut | DeviceCall::Sync => OpenFault::WriteFault,
+    }
+}
+
 #[test]
 fn a_failed_call_is_told(rt: HostRuntime) -> Result<(), Fail> {
     let alloc = rt.alloc();
-    for call in 1..20 {
-        let mut numbers = Vec::new(alloc);
-        numbers.push(call)?;
-        let mut disk = MemDisk::new(alloc).fail_at(Numbers::of(numbers));
+    let calls = calls_of_opening(alloc)?;
+    assert!(rt; calls.len() == 27);
+    let mut number: u64 = 0;
+    for call in &calls {
+        number = number.saturating_add(1);
+        let mut disk = MemDisk::new(alloc).fail_at(Numbers::of(vec![in alloc; number]?));
         let found = opened(alloc, &mut disk);
+        let made = disk.calls_made().len() as u64;
         drop(disk);
-        let told = matches!(found, Err(OpenFault::ReadFault | OpenFault::WriteFault));
-        assert!(rt; told || call > 10, "{call}");
+        assert!(rt; found == Err(fault_of(*call)), "{number}");
+        // Nothing is asked of the disk behind it.
+        assert!(rt; made == number, "{number}");
     }
     Ok(())
 }

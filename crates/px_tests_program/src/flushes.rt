@@ -10,6 +10,9 @@ use std::thread::Threads;
 /// The first file of cells of KV's region.
 const FIRST_FILE: u64 = 4_294_967_300;
 
+/// The first segment of the manifest of KV's region.
+const MANIFEST: u64 = 4_294_967_298;
+
 /// Adds a number as four digits.
 fn push_number(to: &mut String, number: u32) -> Result<(), AllocError> {
     for place in [1000, 100, 10, 1] {
@@ -134,6 +137,25 @@ fn what_is_flushed_stands_in_a_file(rt: HostRuntime) -> Result<(), AllocError> {
     let run = run_again(&rt, alloc, disk, "!flush\nSELECT * FROM KV;\n")?;
     let text = "flushed\n'a', '1'\n1 row selected\n";
     assert!(rt; is_printed(&run, Status::Done, text));
+    Ok(())
+}
+
+#[test]
+fn a_damaged_manifest_is_refused_at_its_place(rt: HostRuntime) -> Result<(), AllocError> {
+    let alloc = rt.alloc();
+    let script = "UPSERT INTO KV VALUES ('a','b'); SELECT * FROM KV;\n!flush\n";
+    let run = run_new(&rt, alloc, script)?;
+    let text = "1 row affected\n'a', 'b'\n1 row selected\nflushed\n";
+    assert!(rt; is_printed(&run, Status::Done, text));
+    let mut disk = disk_of(run);
+    // The kind of the manifest's first record.
+    assert!(rt; disk.write(MANIFEST, 17, &[7]).is_ok() && disk.sync(MANIFEST).is_ok());
+    let run = run_again(&rt, alloc, disk, "SELECT * FROM KV")?;
+    let status = Status::Damaged {
+        file: MANIFEST,
+        place: 17,
+    };
+    assert!(rt; is_printed(&run, status, "") && run.entries == 0);
     Ok(())
 }
 

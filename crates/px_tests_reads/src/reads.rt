@@ -107,6 +107,7 @@ fn what_is_later_written_hides_the_rest(rt: HostRuntime) -> Result<(), Fail> {
 
     // At one place the cell of the store is read, whose value is short.
     let lengths = [9_000usize, 1];
+    assert!(rt; found.len() == lengths.len());
     for (cell, length) in found.as_slice().iter().zip(&lengths) {
         assert!(rt; cell.value().len() == *length);
     }

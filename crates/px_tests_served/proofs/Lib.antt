@@ -1,3 +1,3 @@
-mod Fitting
 mod Serving
 mod Sights
+mod Uses

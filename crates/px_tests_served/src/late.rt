@@ -4,15 +4,12 @@ ghost use Rattle.px_trail.specs.Answers.{IsAmong};
 ghost use Rattle.px_calls.specs.Requires.{CanReadBy, HasOpen};
 ghost use Rattle.px_calls.specs.declared.query.By.TheVariants.{Index as ByIndex};
 ghost use Rattle.px_calls.specs.declared.query.FoundKey.TheVariants.{InDoubt};
-ghost use Rattle.px_rounds.specs.Turns.{IsSingle, TrailGoesOn};
 
 use crate::making::removal;
+use crate::scripts::{is_told_behind, told_first};
 use crate::served::{Case, Wrong, run};
 use crate::stepping::{make, settle};
 use px_calls::{By, Chunk, Doubt, Fixing, FoundKey, Held, Ordered, Path, Point, Steps, Verdict};
-use px_outside::MemSink;
-use px_rounds::{NoGate, Rounds, run_rounds};
-use px_script::read_script;
 use px_seat::Single;
 use px_tables::IndexState;
 use px_values::{IndexId, Items, Name, TableId, Value};
@@ -47,44 +44,7 @@ const ASKING: &str = "SELECT ID, CUST, AMT FROM ORDERS WHERE CUST = 'al';\n";
 
 const ASKED: &str = "0 rows selected\n";
 
-/// Runs a script. Answers whether all was run, and printed this.
-fn told<R: Threads + Wait + Sync, S: Single + Send>(
-    rt: &R,
-    alloc: Global,
-    server: S,
-    text: &str,
-    schedule: &[u32],
-    expected: &str,
-) -> (S, bool)
-    requires single { IsSingle (S.known server) }
-    ensures single { IsSingle (S.known result.0) }
-{
-    let Ok(script) = read_script(alloc, text.as_bytes()) else {
-        return (server, false);
-    };
-    let mut printed = MemSink::new(alloc);
-    let Rounds {
-        server,
-        transcripts,
-        sink_failed,
-        memory,
-    } = run_rounds(
-        rt,
-        alloc,
-        &NoGate,
-        server,
-        &script,
-        Some(schedule),
-        &mut printed,
-    );
-    drop(transcripts);
-    let is_told = !sink_failed && !memory && printed.held() == expected.as_bytes();
-    drop(printed);
-    (server, is_told)
-}
-
 /// The two batches, on a server with which nothing was done.
-#[tactic(auto, using(crate::proofs::Serving::is_single))]
 pub fn met<R: Threads + Wait + Sync, S: Single + Send>(
     rt: &R,
     alloc: Global,
@@ -93,7 +53,7 @@ pub fn met<R: Threads + Wait + Sync, S: Single + Send>(
     requires alone { (S.known server).alone ≡ true }
     requires nothing { (S.known server).seen ≡ [] }
 {
-    told(rt, alloc, server, MEETING, &MEETS, MET)
+    told_first(rt, alloc, server, MEETING, &MEETS, MET)
 }
 
 /// The first index of a point's table, where it may be read.
@@ -301,27 +261,14 @@ pub fn late<R: Wait, S: Single>(rt: &R, alloc: Global, s: &mut S) -> Result<(), 
 }
 
 /// Whether a query finds none of the row's index keys.
-#[tactic(auto, using(crate::proofs::Serving::is_single_since))]
 pub fn is_absent<R: Threads + Wait + Sync, S: Single + Send + Drop>(
     rt: &R,
     alloc: Global,
-    mut server: S,
+    server: S,
 ) -> bool
     requires alone { (S.known server).alone ≡ true }
 {
-    let Ok(name) = Name::from_str(alloc, "ORDERS") else {
-        drop(server);
-        return false;
-    };
-    // A script asks for a legal trail, which is told behind each call.
-    let Ok(found) = server.find(&name) else {
-        drop(server);
-        return false;
-    };
-    drop(found);
-    let (server, is_told) = told(rt, alloc, server, ASKING, &[], ASKED);
-    drop(server);
-    is_told
+    is_told_behind(rt, alloc, server, ASKING, ASKED)
 }
 
 // What the repair answers is `Gone`: the version no longer stands unverified.

@@ -4,8 +4,10 @@ ghost use Rattle.px_opening.specs.Opened.{IsOpenedRight, folder_in};
 ghost use Rattle.px_recovery.specs.Base.{IsSoundFolder, base_of};
 ghost use Rattle.px_server.specs.Others.{BeginsAt};
 
+use crate::dropping::{AGAIN, Use, again_printed, dropped_behind, made};
 use crate::full::filled;
 use crate::late::{is_absent, late, met};
+use crate::scripts::is_told_behind;
 use px_opening::{Opened, open};
 use px_outside::{Clock, CountsCalls, Disk, FixedClock, MemDisk, Metered};
 use px_seat::Based;
@@ -22,6 +24,8 @@ pub enum Case {
     Full,
     /// A repair comes late.
     Late,
+    /// An index is to be dropped while its table is in use.
+    InUse(Use),
 }
 
 /// What was otherwise than it is to be.
@@ -35,6 +39,7 @@ pub enum Wrong {
     NotBusy,
     NotSettled,
     NotMet,
+    NotPrepared,
     NoTable,
     NoIndex,
     NotOpened,
@@ -45,6 +50,9 @@ pub enum Wrong {
     NotRaised,
     NotGone,
     NotAbsent,
+    NotInUse,
+    NotDropped,
+    NotRefused,
 }
 
 /// Runs the late repair on a server with which nothing was done.
@@ -72,6 +80,31 @@ fn run_late<
     }
 }
 
+/// Runs the drop of an index on a server with which nothing was done.
+fn run_in_use<
+    R: Threads + Wait + Sync,
+    D: CountsCalls + Drop + Send,
+    C: Clock + Drop + Send,
+    B: Based + Founded + Send + Sync,
+>(rt: &R, alloc: Global, server: Server<D, C, B>, used: Use) -> Result<(), Wrong>
+    requires { server.entries ≡ [] }
+{
+    let (mut server, is_made) = made(rt, alloc, server);
+    if !is_made {
+        drop(server);
+        return Err(Wrong::NotPrepared);
+    }
+    if let Err(wrong) = dropped_behind(alloc, &mut server, used) {
+        drop(server);
+        return Err(wrong);
+    }
+    if is_told_behind(rt, alloc, server, AGAIN, again_printed(used)) {
+        Ok(())
+    } else {
+        Err(Wrong::NotRefused)
+    }
+}
+
 /// Runs a case on a server with which nothing was done.
 fn run_on<
     R: Threads + Wait + Sync,
@@ -89,6 +122,7 @@ fn run_on<
             end
         }
         Case::Late => run_late(rt, alloc, server),
+        Case::InUse(used) => run_in_use(rt, alloc, server, used),
     }
 }
 

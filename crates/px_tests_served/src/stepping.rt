@@ -1,11 +1,11 @@
 // Calls of steps.
-ghost use Rattle.std.specs.Prelude.{◌≡◌, ◌≢◌, ◌≤◌, [], true, length};
+ghost use Rattle.std.specs.Prelude.{◌≡◌, ◌≢◌, ◌≤◌, [], true, length, IfSome};
 ghost use Rattle.px_trail.specs.Batches.{is_distinct, rows_of};
 ghost use Rattle.px_calls.specs.Requires.{AreFitting};
 
-use crate::making::{Batch, are_fitting};
 use px_batch::{BatchRun, BatchTurn};
 use px_calls::{Receipt, StepFault, Steps, Ticket, Work};
+use px_tests_making::{Batch, are_fitting};
 use px_values::{Changes, Name, TableId};
 use std::sync::Wait;
 
@@ -59,40 +59,35 @@ fn make_fitting<R: Wait, S: Steps>(
     unreachable!()
 }
 
-/// Makes a batch of the table that has the name.
-#[tactic(auto, using(crate::proofs::Fitting::fitting))]
-pub fn make<R: Wait, S: Steps>(rt: &R, s: &mut S, name: &Name, batch: Batch) -> Option<Made> {
-    let Batch { changes } = batch;
-    let Ok(found) = s.find(name) else {
-        drop(changes);
-        return None;
-    };
+/// The table that has the name, where the changes are of its rows.
+#[tactic(auto, using(px_tests_making::proofs::Fitting::fitting))]
+pub fn table_for<S: Steps>(s: &mut S, name: &Name, changes: &Changes) -> Option<TableId>
+    ensures { IfSome result (λ t. AreFitting (S.known s.new) t.0 changes.now) }
+{
+    let found = s.find(name).ok()?;
     let table = found.table.id;
     let is_fitting = are_fitting(&found.table, changes.as_slice());
     drop(found);
-    if is_fitting {
-        make_fitting(rt, s, table, changes)
-    } else {
+    if is_fitting { Some(table) } else { None }
+}
+
+/// Makes a batch of the table that has the name.
+pub fn make<R: Wait, S: Steps>(rt: &R, s: &mut S, name: &Name, batch: Batch) -> Option<Made> {
+    let Batch { changes } = batch;
+    let Some(table) = table_for(s, name, &changes) else {
         drop(changes);
-        None
-    }
+        return None;
+    };
+    make_fitting(rt, s, table, changes)
 }
 
 /// Why a batch of the table that has the name doesn't begin.
-#[tactic(auto, using(crate::proofs::Fitting::fitting))]
 pub fn refusal<S: Steps>(s: &mut S, name: &Name, batch: Batch) -> Option<StepFault> {
     let Batch { changes } = batch;
-    let Ok(found) = s.find(name) else {
+    let Some(table) = table_for(s, name, &changes) else {
         drop(changes);
         return None;
     };
-    let table = found.table.id;
-    let is_fitting = are_fitting(&found.table, changes.as_slice());
-    drop(found);
-    if !is_fitting {
-        drop(changes);
-        return None;
-    }
     let begun = s.begin(table, &changes);
     drop(changes);
     match begun {

@@ -1,4 +1,4 @@
-ghost use Rattle.std.specs.Prelude.{IfSome};
+ghost use Rattle.std.specs.Prelude.{IfSome, true};
 ghost use Rattle.px_cellbytes.specs.Reading.{IsWritten};
 
 use px_cellbytes::read_cells;
@@ -8,10 +8,10 @@ use px_file::RegionFile;
 use px_files::{free_local, open_files};
 use px_making::{MakeStep, Making};
 use px_outside::{Disk, MemDisk};
-use px_sources::{Source, give};
-use px_tests_storage::{Seen, push_cell};
+use px_sources::{CellTaker, Source, give};
+use px_tests_storage::push_cell;
 use px_wal::FileEntry;
-use std::alloc::Global;
+use std::alloc::{AllocError, Global};
 use std::test::Fail;
 
 /// The local files 4 and 5 of region 1.
@@ -57,7 +57,34 @@ fn made(
     make(alloc, disk, file, &cells)
 }
 
-/// What is given of a slice over a file, within a range.
+/// Keeps of each cell ten times its row and its stamp, and the length of its value.
+#[derive(Drop)]
+struct Taken {
+    cells: Vec<u64>,
+    lengths: Vec<usize>,
+}
+
+impl CellTaker for Taken {
+    ghost has_taken = { λ taken cells. Unit {0} };
+
+    ghost wants = { λ taken cells. true };
+
+    fn take(&mut self, cell: &Cell) -> Result<(), AllocError> {
+        let row = match cell.key() {
+            [] => 0,
+            [row, ..] => u64::from(*row),
+        };
+        self.cells.push(row * 10 + cell.stamp() % 10)?;
+        self.lengths.push(cell.value().len())?;
+        Ok(())
+    }
+
+    fn wants_row(&self) -> bool {
+        true
+    }
+}
+
+/// What is given of a slice over a file, within a range, and how many rows were looked at.
 fn gathered(
     alloc: Global,
     disk: &mut MemDisk,
@@ -65,15 +92,16 @@ fn gathered(
     slice: &[Cell],
     low: &[u8],
     high: Option<&[u8]>,
-) -> Option<(Vec<u64>, u64)> {
+) -> Option<(Taken, u64)> {
     let cursor = Cursor::begin(alloc, disk, file, low, high).ok()?;
     let mut sources = [Source::Slice(slice), Source::File(cursor)];
-    let mut taker = Seen {
+    let mut taker = Taken {
         cells: Vec::new(alloc),
+        lengths: Vec::new(alloc),
     };
     let mut looked = 0;
     give(alloc, disk, &mut sources, &mut taker, &mut looked).ok()?;
-    Some((taker.cells, looked))
+    Some((taker, looked))
 }
 
 #[test]
@@ -85,14 +113,15 @@ fn a_file_of_three_blocks_is_read_by_ranges(rt: HostRuntime) -> Result<(), Fail>
     let calls = disk.calls_made().len();
     let (all, rows) = gathered(alloc, &mut disk, &file, &[], &[], None).ok_or("not given")?;
     assert!(rt;
-        all.as_slice() == [1, 11, 21, 31, 41, 51, 61, 71, 81, 91, 101, 111].as_slice() && rows == 12
+        all.cells.as_slice() == [1, 11, 21, 31, 41, 51, 61, 71, 81, 91, 101, 111].as_slice()
+            && rows == 12
     );
     assert!(rt; disk.calls_made().len() == calls + 3);
     let (some, rows) = gathered(alloc, &mut disk, &file, &[], &[5], Some(&[7])).ok_or("not given")?;
-    assert!(rt; some.as_slice() == [51, 61].as_slice() && rows == 2);
+    assert!(rt; some.cells.as_slice() == [51, 61].as_slice() && rows == 2);
     assert!(rt; disk.calls_made().len() == calls + 4);
     let (none, rows) = gathered(alloc, &mut disk, &file, &[], &[12], None).ok_or("not given")?;
-    assert!(rt; none.is_empty() && rows == 0);
+    assert!(rt; none.cells.is_empty() && rows == 0);
     Ok(())
 }
 
@@ -105,7 +134,9 @@ fn what_is_later_written_stands_first(rt: HostRuntime) -> Result<(), Fail> {
     let (all, rows) = gathered(alloc, &mut disk, &file, newer.as_slice(), &[], None).ok_or(
         "not given",
     )?;
-    assert!(rt; all.as_slice() == [11, 21, 31].as_slice() && rows == 3);
+    assert!(rt; all.cells.as_slice() == [11, 21, 31].as_slice() && rows == 3);
+    // The values of the slice are short, those of the file have 9,000 bytes.
+    assert!(rt; all.lengths.as_slice() == [1, 1, 1].as_slice());
     Ok(())
 }
 
@@ -130,7 +161,10 @@ fn the_named_files_are_opened(rt: HostRuntime) -> Result<(), Fail> {
     let files = open_files(alloc, &mut disk, 1, &named)
         .ok()
         .ok_or("not opened")?;
-    assert!(rt; files.len() == 2);
+    // In the order in which they are named.
+    assert!(rt;
+        matches!(files.as_slice(), [newer, older] if newer.number() == FILES[1] && newer.cells() == 1 && older.number() == FILES[0] && older.cells() == 12)
+    );
     assert!(rt; free_local(&named) == Some(6) && free_local(&[]) == Some(4));
     Ok(())
 }

@@ -1,5 +1,5 @@
 use Rattle.std.proofs.Common.{length}
-use Rattle.px_tests_served.proofs.making.+names.Given as goal
+use Rattle.px_tests_making.proofs.batches.+names.Given as goal
 
 abbrev pub decreases-names : goal.decreases-names
 decreases-names l = length l.changes.now

@@ -1,5 +1,5 @@
 use Rattle.std.proofs.Common.{length}
-use Rattle.px_bench_steps.proofs.making.+are_distinct.Given as goal
+use Rattle.px_tests_making.proofs.batches.+are_distinct.Given as goal
 
 abbrev pub decreases-are_distinct : goal.decreases-are_distinct
 decreases-are_distinct l = length l.changes.now

@@ -1,5 +1,0 @@
-use Rattle.std.proofs.Common.{length}
-use Rattle.px_bench_steps.proofs.making.+are_fitting.Given as goal
-
-abbrev pub decreases-are_fitting : goal.decreases-are_fitting
-decreases-are_fitting l = length l.changes.now
