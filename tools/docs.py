@@ -55,13 +55,13 @@ def fault(text):
 
 
 def crates():
-    """The crates by crates.txt, in its order."""
-    names = []
+    """The crates by crates.txt, in its order, each with the crates of this repository that it stands on."""
+    stands_on = {}
     for line in open("crates.txt", encoding="utf-8"):
-        found = re.match(r"([a-z0-9_]+)[^:#]*:", line)
+        found = re.match(r"([a-z0-9_]+)[^:#]*:([^#]*)", line)
         if found:
-            names.append(found.group(1))
-    return names
+            stands_on[found.group(1)] = [name for name in found.group(2).split() if name.startswith("px_")]
+    return stands_on
 
 
 def read_readme(crate):
@@ -287,11 +287,7 @@ def own_names(names):
 
 def architecture():
     """Each library stands in the picture and in the table, and in the picture on no line above one that stands on it."""
-    stands_on = {}
-    for line in open("crates.txt", encoding="utf-8"):
-        found = re.match(r"(px_[a-z0-9_]+)[^:#]*:(.*)", line)
-        if found and not found.group(1).startswith(WITHOUT_README):
-            stands_on[found.group(1)] = [name for name in found.group(2).split() if name.startswith("px_")]
+    stands_on = {name: below for name, below in crates().items() if not name.startswith(WITHOUT_README)}
     text = open(ARCHITECTURE, encoding="utf-8").read()
     line_of = {}
     for number, line in enumerate(text.split("```")[1].split("\n")):
@@ -306,6 +302,10 @@ def architecture():
         for one in below:
             if line_of.get(one, len(text)) < line_of.get(name, 0):
                 fault(f"{ARCHITECTURE}: {one} stands above {name} in the picture, which stands on it")
+
+
+def lengths():
+    """No page is longer than it may be."""
     for path, most in LONGEST.items():
         lines = open(path, encoding="utf-8").read().count("\n")
         if lines > most:
@@ -346,6 +346,7 @@ def main():
     links()
     own_names(crates())
     architecture()
+    lengths()
     sys.exit(1 if faults else 0)
 
 
