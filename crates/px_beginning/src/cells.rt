@@ -1,11 +1,11 @@
 // What is made of a batch for each index.
-ghost use Rattle.std.specs.Prelude.{◌≡◌, Err, IfOk, IsOk, map, true};
+ghost use Rattle.std.specs.Prelude.{◌≡◌, Err, IfOk, IsOk, map, true, IfErr};
 ghost use Rattle.std.specs.List.{AllByRecursion};
 ghost use Rattle.px_indexrow.specs.Form.{IsRightIndex, index_form};
 ghost use Rattle.px_rows.specs.Keys.{IsRightTable};
 ghost use Rattle.px_trail.specs.Batches.{is_distinct, rows_of};
 ghost use Rattle.px_phases.specs.Phases.{AreTransitions, HasLongIndexed, close_parts, mark_parts};
-ghost use Rattle.px_beginning.specs.Faults.{HasLongIn};
+ghost use Rattle.px_beginning.specs.Faults.{HasLongIn, TellsNoRead};
 ghost use Rattle.px_beginning.specs.Reads.{index_forms};
 ghost use Rattle.px_values.specs.declared.limit.Limit.{Limit as Bound};
 ghost use Rattle.px_beginning.specs.declared.fault.BeginFault.{BeginFault as Fault};
@@ -37,6 +37,7 @@ fn marks_at(
     ensures long { result ≡ Err (Fault.Limit Bound.Key) → HasLongIndexed table.now index.now changes.now transitions.now }
     ensures short { IsOk result → HasLongIndexed table.now index.now changes.now transitions.now → ⊥ }
     ensures only { (limit : Bound) → result ≡ Err (Fault.Limit limit) → limit ≡ Bound.Key }
+    ensures unread { IfErr result TellsNoRead }
 {
     match marks_of_rows(alloc, table, index, changes, transitions, stamp) {
         Ok(cells) => Ok(cells),
@@ -62,6 +63,7 @@ pub(crate) fn marks_of_indexes(
     ensures long { result ≡ Err (Fault.Limit Bound.Key) → HasLongIn table.now indexes.now changes.now transitions.now }
     ensures short { IsOk result → AllByRecursion (λ x. HasLongIndexed table.now x.index changes.now transitions.now → ⊥) indexes.now }
     ensures only { (limit : Bound) → result ≡ Err (Fault.Limit limit) → limit ≡ Bound.Key }
+    ensures unread { IfErr result TellsNoRead }
 {
     let mut kept = VecDeque::with_capacity(alloc, indexes.len())?;
     for part in indexes {
@@ -87,6 +89,7 @@ fn closes_at(
     ensures kept { IfOk result (λ kept. kept ≡ close_parts (index_form table.now index.now) stamp changes.now transitions.now) }
     ensures long { result ≡ Err (Fault.Limit Bound.Key) → HasLongIndexed table.now index.now changes.now transitions.now }
     ensures only { (limit : Bound) → result ≡ Err (Fault.Limit limit) → limit ≡ Bound.Key }
+    ensures unread { IfErr result TellsNoRead }
 {
     match closes_of_rows(alloc, table, index, changes, transitions, stamp) {
         Ok(cells) => Ok(cells),
@@ -111,6 +114,7 @@ pub(crate) fn closes_of_indexes(
     ensures kept { IfOk result (λ kept. kept.items ≡ map (λ f. close_parts f stamp changes.now transitions.now) (index_forms table.now indexes.now)) }
     ensures long { result ≡ Err (Fault.Limit Bound.Key) → HasLongIn table.now indexes.now changes.now transitions.now }
     ensures only { (limit : Bound) → result ≡ Err (Fault.Limit limit) → limit ≡ Bound.Key }
+    ensures unread { IfErr result TellsNoRead }
 {
     let mut kept = VecDeque::with_capacity(alloc, indexes.len())?;
     for part in indexes {

@@ -1,5 +1,7 @@
 // What is read and made for a batch.
-ghost use Rattle.std.specs.Prelude.{◌≡◌, ◌≤◌, Err, IfOk, Some, length, map, true};
+ghost use Rattle.std.specs.Prelude.{◌≡◌, ◌≤◌, Err, IfOk, Some, length, map, true, ◌≢◌, ℕ, IfErr};
+ghost use Rattle.px_outside.specs.OnDisk.{Rose};
+ghost use Rattle.px_region.specs.OnlyRead.{HasOnlyRead};
 ghost use Rattle.std.specs.List.{AllByRecursion};
 ghost use Rattle.px_rows.specs.Keys.{row_key};
 ghost use Rattle.px_trail.specs.Batches.{is_distinct, rows_of};
@@ -11,7 +13,7 @@ ghost use Rattle.px_phases.specs.Phases.{ArePuts, AreTransitions, HasLongIndexed
 ghost use Rattle.px_values.specs.declared.limit.Limit.{Limit as Bound};
 ghost use Rattle.px_beginning.specs.declared.fault.BeginFault.{BeginFault as Fault};
 ghost use Rattle.px_beginning.specs.Begins.{IsBatchOf, IsMadeOf, NeedsLongKey};
-ghost use Rattle.px_beginning.specs.Faults.{HasLongIn};
+ghost use Rattle.px_beginning.specs.Faults.{HasLongIn, TellsNoRead};
 ghost use Rattle.px_beginning.specs.Leaves.{KeepsRooms, LeavesGroup};
 ghost use Rattle.px_beginning.specs.Reads.{index_forms};
 ghost use Rattle.px_beginning.specs.Rooms.{AreRoomsOf, HasManyBytes, HasManyCells, MakesTooMuch};
@@ -72,7 +74,9 @@ pub fn prepare<D: Disk>(
     ensures bytes { result ≡ Err (Fault.Limit Bound.Bytes) → HasManyBytes group.old stamp changes.now }
     ensures leaves { LeavesGroup group.old group.new }
     ensures keeps { KeepsRooms group.old group.new }
-    ensures untouched { disk.new ≡ disk.old }
+    ensures undamaged { (file place : ℕ) → result ≢ Err (Fault.Damaged file place) }
+    ensures failed { result ≡ Err Fault.ReadFault → Rose ⟦<D as Disk>⟧ disk.old disk.new }
+    ensures only_read { HasOnlyRead ⟦<D as Disk>⟧ disk.old disk.new }
 {
     let listed = changes.as_slice();
     let keys = row_keys(alloc, &group.table, listed)?;
@@ -111,6 +115,7 @@ fn prepared_of(
     ensures long { result ≡ Err (Fault.Limit Bound.Key) → HasLongIn group.now.table group.now.indexes.items changes.now transitions.now }
     ensures cells { result ≡ Err (Fault.Limit Bound.Cells) → MakesTooMuch cells_of_rows cells_at 8192 group.now stamp changes.now transitions.now }
     ensures bytes { result ≡ Err (Fault.Limit Bound.Bytes) → MakesTooMuch bytes_of_rows bytes_at 8388608 group.now stamp changes.now transitions.now }
+    ensures unread { IfErr result TellsNoRead }
 {
     let made = made_of(alloc, group, changes, transitions, stamp)?;
     let rows = room_of(&made.puts);
@@ -149,6 +154,7 @@ fn made_of(
     ensures short { IfOk result (λ made. AllByRecursion (λ x. HasLongIndexed group.now.table x.index changes.now transitions.now → ⊥) group.now.indexes.items) }
     ensures long { result ≡ Err (Fault.Limit Bound.Key) → HasLongIn group.now.table group.now.indexes.items changes.now transitions.now }
     ensures only { (limit : Bound) → result ≡ Err (Fault.Limit limit) → limit ≡ Bound.Key }
+    ensures unread { IfErr result TellsNoRead }
 {
     let listed = changes.as_slice();
     let indexes = group.indexes.as_slice();

@@ -1,5 +1,7 @@
 // What is read for a batch: the rows before its changes, and after them.
-ghost use Rattle.std.specs.Prelude.{◌≡◌, ◌≤◌, ◌<◌, Err, IfOk, length};
+ghost use Rattle.std.specs.Prelude.{◌≡◌, ◌≤◌, ◌<◌, Err, IfOk, length, ◌≢◌, ℕ, IfErr};
+ghost use Rattle.px_outside.specs.OnDisk.{Rose};
+ghost use Rattle.px_region.specs.OnlyRead.{HasOnlyRead};
 ghost use Rattle.std.specs.List.{AllByRecursion};
 ghost use Rattle.px_cells.specs.Contents.{value_at};
 ghost use Rattle.px_region.specs.Promise.{IsAlike, IsSamePromise};
@@ -11,7 +13,7 @@ ghost use Rattle.px_cellshapes.specs.Rows.{AreRightRows};
 ghost use Rattle.px_phases.specs.Batch.{AllFit};
 ghost use Rattle.px_phases.specs.Begun.{AreFrom};
 ghost use Rattle.px_phases.specs.Phases.{AreTransitions, IsTransition};
-ghost use Rattle.px_beginning.specs.Faults.{HasLongRow};
+ghost use Rattle.px_beginning.specs.Faults.{HasLongRow, TellsNoRead};
 ghost use Rattle.px_beginning.specs.Reads.{keys_of_rows, old_in};
 ghost use Rattle.px_values.specs.declared.limit.Limit.{Limit as Bound};
 ghost use Rattle.px_beginning.specs.declared.fault.BeginFault.{BeginFault as Fault};
@@ -39,6 +41,7 @@ fn own_key(alloc: Global, table: &Table, change: &Change) -> Result<Key, BeginFa
     ensures ok { IfOk result (λ key. (key ≡ row_key table.now change.now.row) × (length key ≤ most_key)) }
     ensures long { result ≡ Err (Fault.Limit Bound.Key) → most_key < length (row_key table.now change.now.row) }
     ensures only { (limit : Bound) → result ≡ Err (Fault.Limit limit) → limit ≡ Bound.Key }
+    ensures unread { IfErr result TellsNoRead }
 {
     match key_of(alloc, table, change.row.as_slice()) {
         Ok(key) => Ok(key),
@@ -59,6 +62,7 @@ pub(crate) fn row_keys(
     ensures short { IfOk result (λ keys. AllByRecursion (λ c. length (row_key table.now c.row) ≤ most_key) changes.now) }
     ensures long { result ≡ Err (Fault.Limit Bound.Key) → HasLongRow table.now changes.now }
     ensures only { (limit : Bound) → result ≡ Err (Fault.Limit limit) → limit ≡ Bound.Key }
+    ensures unread { IfErr result TellsNoRead }
 {
     let mut keys = Vec::with_capacity(alloc, changes.len())?;
     for change in changes {
@@ -88,7 +92,9 @@ fn transition<D: Disk>(
     ensures from { IfOk result (λ x. x.old ≡ old_in table.now (read_of rows.old) batches.now change.now.row) }
     ensures alike { IsAlike rows.old rows.new }
     ensures promised { IsSamePromise rows.old rows.new }
-    ensures untouched { disk.new ≡ disk.old }
+    ensures undamaged { (file place : ℕ) → result ≢ Err (Fault.Damaged file place) }
+    ensures failed { result ≡ Err Fault.ReadFault → Rose ⟦<D as Disk>⟧ disk.old disk.new }
+    ensures only_read { HasOnlyRead ⟦<D as Disk>⟧ disk.old disk.new }
 {
     law_rows_read();
     let row = change.row.as_slice();
@@ -123,7 +129,9 @@ pub(crate) fn transitions_of<D: Disk>(
     ensures from { IfOk result (λ xs. AreFrom (old_in table.now (read_of rows.old) batches.now) changes.now xs.items) }
     ensures alike { IsAlike rows.old rows.new }
     ensures promised { IsSamePromise rows.old rows.new }
-    ensures untouched { disk.new ≡ disk.old }
+    ensures undamaged { (file place : ℕ) → result ≢ Err (Fault.Damaged file place) }
+    ensures failed { result ≡ Err Fault.ReadFault → Rose ⟦<D as Disk>⟧ disk.old disk.new }
+    ensures only_read { HasOnlyRead ⟦<D as Disk>⟧ disk.old disk.new }
 {
     let mut transitions = Vec::with_capacity(alloc, changes.len())?;
     for place in 0..changes.len() {

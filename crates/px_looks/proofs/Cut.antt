@@ -17,7 +17,7 @@ use Rattle.px_cells.proofs.Orders.Order.{by_key}
 use Rattle.px_region.specs.Giving.{begins_row, key_at, rows_before}
 use Rattle.px_region.proofs.Given.{begins_first, begins_next, row_none, row_step}
 use Rattle.px_looks.specs.Keys.{IsBetweenKeys, next_key}
-use Rattle.px_looks.specs.inner.Lent.{AreFirst}
+use Rattle.px_looks.specs.inner.Lent.{AreFirst, IsTaken}
 use Rattle.px_looks.proofs.KeyOrder.{before_up, equal, higher, key_itself, keys_by, less_next, lower, next_less}
 
 abbrev pub no_cell : CellData
@@ -158,14 +158,6 @@ has_at (c ∷ cells) (suc i) d lt = inr (has_at cells i d (omega arith))
 
 pub key_in_rows : (all : List CellData) (low : List ℕ) (high : Option (List ℕ)) (rows : List CellData) → AreRows all low high rows → (i : ℕ) → i < length rows → IsBetweenKeys low high (key_at rows i)
 key_in_rows all low high rows are i lt = ((are.exact (get_or rows i no_cell)).0 (reads_from_has rows (get_or rows i no_cell) are.ascending (has_at rows i no_cell lt))).1
-
--- what is lent where so many rows are wanted
-pub record IsTaken (cells : List CellData) (low : List ℕ) (high : Option (List ℕ)) (most rows : ℕ) (got : List CellData) : Type 0 where
-  pub counted : rows ≡ min (rows_before got (length got)) 18446744073709551615
-  pub few : rows_before got (length got) ≤ most
-  pub all : rows < most → AreRows cells low high got
-  pub part : 0 < length got → AreRows cells low (Some (next_key (key_at got (length got - 1)))) got
-  pub within : 0 < length got → IsBetweenKeys low high (key_at got (length got - 1))
 
 module _ (cells : List CellData) (low : List ℕ) (high : Option (List ℕ)) (most rows : ℕ) (all got : List CellData) (fits : rows ≤ 18446744073709551615) (are : AreRows cells low high all) (first : AreFirst all most rows got) where
   len : length (take first.count all) ≡ first.count

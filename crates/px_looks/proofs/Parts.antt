@@ -22,7 +22,8 @@ use Rattle.px_looks.specs.Keys.{next_key}
 use Rattle.px_looks.specs.inner.Among.{FoundAmong}
 use Rattle.px_looks.specs.inner.Parts.{FoundTo, IsFirst, end_or}
 use Rattle.px_looks.proofs.Among.{found_in, same_within}
-use Rattle.px_looks.proofs.Cut.{IsTaken, key_in_rows}
+use Rattle.px_looks.specs.inner.Lent.{IsTaken}
+use Rattle.px_looks.proofs.Cut.{key_in_rows}
 use Rattle.px_looks.proofs.KeyOrder.{above_itself, before_up, equal, higher, key_apart, key_itself, key_on, key_trans, key_up, keys_by, less_next, lower, next_less}
 use Rattle.px_looks.proofs.Rising.{among_back, among_front, among_here, among_none, among_parts, past_key, rises_after, rises_join, rises_none}
 

@@ -4,14 +4,16 @@ use Rattle.std.proofs.lemmas.Bool.{cases_Bool}
 use Rattle.std.specs.declared.cmp.Ordering.TheVariants.{Less}
 use Rattle.px_cells.specs.Among.{Has}
 use Rattle.px_cells.specs.CellData.{CellData}
+use Rattle.px_cells.specs.Order.{IsAscending}
 use Rattle.px_cells.specs.Rows.{AreRows}
+use Rattle.px_cells.proofs.Among.{ascending_left}
 use Rattle.px_cells.proofs.Orders.{equal_key}
 use Rattle.px_memstore.specs.Pieces.{AreFirstRows, KeysApart}
 use Rattle.px_region.specs.Giving.{begins_row, key_at, rows_before}
 use Rattle.px_region.proofs.Given.{begins_first, row_step, rows_rise}
-use Rattle.px_looks.specs.inner.Lent.{AreFirst}
+use Rattle.px_looks.specs.inner.Lent.{AreFirst, IsTaken}
 use Rattle.px_looks.proofs.Among.{begins_not}
-use Rattle.px_looks.proofs.Cut.{IsTaken, begins_front, front_at, has_at, no_cell, rows_front, taken_of}
+use Rattle.px_looks.proofs.Cut.{begins_front, front_at, has_at, no_cell, rows_front, taken_of}
 
 take_front : (xs ys : List CellData) (n : ℕ) → n ≤ length xs → take n (xs ++ ys) ≡ take n xs
 take_front xs ys zero l = refl
@@ -60,6 +62,10 @@ first_in all others most rows got apart f = record {
       )
       | inr z ↦ inr ((let n = length-append all others in let l = z.0 in omega (arith, n, l)), begins_front all others f.count z.0 ∙ z.1, refl)
     ]
+
+-- the first rows are sorted
+pub first_ascending : (cells : List CellData) (low : List ℕ) (high : Option (List ℕ)) (first : List CellData) (is_all : Bool) → AreFirstRows cells low high first is_all → IsAscending first
+first_ascending cells low high first is_all are = ascending_left first are.others are.rows.ascending
 
 -- where they aren't all of the range, more follow
 pub taken_more : (cells : List CellData) (low : List ℕ) (high : Option (List ℕ)) (most rows : ℕ) (all got : List CellData) → rows ≤ 18446744073709551615 → AreFirstRows cells low high all false → AreFirst all most rows got → IsTaken cells low high rows rows got

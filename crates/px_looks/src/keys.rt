@@ -1,11 +1,14 @@
 // The keys of an index's path.
-ghost use Rattle.std.specs.Prelude.{◌≡◌, ◌<◌, ◌≤◌, ℕ, List, suc, IfOk, length, map};
+ghost use Rattle.std.specs.Prelude.{◌≡◌, ◌<◌, ◌≤◌, ℕ, List, suc, IfOk, length, map, ◌≢◌, Err};
 ghost use Rattle.std.specs.Option.{option_copied};
 ghost use Rattle.px_cells.specs.Contents.{value_at};
 ghost use Rattle.px_cells.specs.Order.{IsCellList};
 ghost use Rattle.px_cells.specs.Sight.{IsPlainRegion};
+ghost use Rattle.px_outside.specs.OnDisk.{Rose};
+ghost use Rattle.px_region.specs.OnlyRead.{HasOnlyRead};
 ghost use Rattle.px_region.specs.Promise.{IsAlike, IsSamePromise};
 ghost use Rattle.px_region.specs.Region.{read_of};
+ghost use Rattle.px_region.specs.declared.fault.LookFault.{LookFault as Fault};
 ghost use Rattle.px_paths.specs.Paths.{columns_on, index_path as path_of, value_on_path};
 ghost use Rattle.px_rows.specs.Keys.{IsRightTable, column_in};
 ghost use Rattle.px_rows.specs.inner.Found.{AreOf};
@@ -236,7 +239,7 @@ pub fn columns_of(alloc: Global, path: &[PathColumn]) -> Result<Vec<KeyColumn>, 
 /// index shows, and another one is in doubt. Where there may be more, `next` is the key of the last.
 ///
 /// The keys are found in logarithmic time and read one after the other; each one that is looked at is counted, also one
-/// without a version at the point. Nothing else of the region or the disk changes. It is refused with `Memory` alone.
+/// without a version at the point. Nothing else of the region changes, and the disk is only read.
 pub fn look_keys<D: Disk>(
     alloc: Global,
     disk: &mut D,
@@ -255,7 +258,9 @@ pub fn look_keys<D: Disk>(
     ensures risen { region.old.looked ≤ region.new.looked }
     ensures alike { IsAlike region.old region.new }
     ensures promised { IsSamePromise region.old region.new }
-    ensures untouched { disk.new ≡ disk.old }
+    ensures undamaged { (file place : ℕ) → result ≢ Err (Fault.Damaged file place) }
+    ensures failed { result ≡ Err Fault.ReadFault → Rose ⟦<D as Disk>⟧ disk.old disk.new }
+    ensures only_read { HasOnlyRead ⟦<D as Disk>⟧ disk.old disk.new }
 {
     let Ok(path) = index_path(alloc, table, index) else {
         return Err(LookFault::Memory);

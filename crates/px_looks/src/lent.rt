@@ -1,15 +1,12 @@
-// Rows as a region lends them.
-ghost use Rattle.std.specs.Prelude.{◌≡◌, ◌≢◌, ◌+◌, ◌<◌, ◌≤◌, ◌-◌, ℕ, Some, true, false, length, min};
-ghost use Rattle.std.specs.Option.{option_copied};
+// The first rows of a range.
+ghost use Rattle.std.specs.Prelude.{◌≡◌, ◌≢◌, ◌+◌, ◌<◌, ◌≤◌, ◌-◌, ℕ, List, Option, true, false, length};
+ghost use Rattle.px_cells.specs.CellData.{CellData};
 ghost use Rattle.px_cells.specs.Order.{IsAscending};
-ghost use Rattle.px_cells.specs.Rows.{AreRows};
-ghost use Rattle.px_region.specs.Giving.{begins_row, key_at, rows_before};
-ghost use Rattle.px_region.specs.Region.{read_of};
-ghost use Rattle.px_looks.specs.Keys.{IsBetweenKeys, next_key};
-ghost use Rattle.px_looks.specs.inner.Lent.{AreFirst, IsRowEnd};
+ghost use Rattle.px_memstore.specs.Pieces.{AreFirstRows};
+ghost use Rattle.px_region.specs.Giving.{begins_row, key_at};
+ghost use Rattle.px_looks.specs.inner.Lent.{AreFirst, IsRowEnd, IsTaken};
 
 use px_cells::{Cell, place_after};
-use px_region::{FirstRows, Region};
 
 /// The cells of the first rows of a range.
 #[derive(Clone, Copy)]
@@ -87,22 +84,18 @@ fn first_rows(cells: &[Cell], most: u64) -> Lent<'_>
     }
 }
 
-/// The first rows of a range, at most so many, and at most those of one piece. They aren't counted as looked at.
-pub(crate) fn lend<'a>(region: &'a Region, low: &[u8], high: Option<&[u8]>, most: u64) -> Lent<'a>
-    ensures counted { result.rows ≡ min (rows_before result.cells.now (length result.cells.now)) 18446744073709551615 }
-    ensures few { rows_before result.cells.now (length result.cells.now) ≤ result.most }
-    ensures all { result.rows < result.most → AreRows (read_of region.now) low.now (option_copied high.entry) result.cells.now }
-    ensures part { 0 < length result.cells.now → AreRows (read_of region.now) low.now (Some (next_key (key_at result.cells.now (length result.cells.now - 1)))) result.cells.now }
-    ensures within { 0 < length result.cells.now → IsBetweenKeys low.now (option_copied high.entry) (key_at result.cells.now (length result.cells.now - 1)) }
+/// The first rows of a range, at most so many, of the first ones that were read.
+pub(crate) fn lend(cells: &[Cell], is_all: bool, most: u64) -> Lent<'_>
+    requires sorted { IsAscending cells.now }
+    ensures taken { (list : List CellData) (low : List ℕ) (high : Option (List ℕ)) → AreFirstRows list low high cells.now is_all → IsTaken list low high result.most result.rows result.cells.now }
     ensures most { result.most ≤ most }
-    ensures some { 0 < most → 0 < result.most }
+    ensures some { (is_all ≡ false → 0 < length cells.now) → 0 < most → 0 < result.most }
 {
-    let FirstRows { cells, is_all } = region.rows(low, high);
     let lent = first_rows(cells, most);
     if is_all {
         return lent;
     }
-    // More rows stand in the next piece.
+    // More rows stand behind them.
     Lent {
         cells: lent.cells,
         rows: lent.rows,

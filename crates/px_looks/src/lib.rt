@@ -18,5 +18,5 @@ pub use keys::{columns_of, look_keys, value_among};
 pub use next::NextKeys;
 pub use row::{row_cells, row_state};
 pub use rows::look_rows;
-pub use stamp::{any_of_stamp, has_cell_of};
+pub use stamp::any_of_stamp;
 pub use version::{KeyVersion, key_version};

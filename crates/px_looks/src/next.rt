@@ -1,5 +1,5 @@
 // The next keys of a path.
-ghost use Rattle.std.specs.Prelude.{Ok, Option, min, ◌≡◌, ◌≢◌, ◌+◌, ◌<◌, ◌≤◌, ◌-◌, ◌∷◌, [], ◌⊎◌, get_or, ℕ, List, Some, length, IfOk, OnOk, MatchOption};
+ghost use Rattle.std.specs.Prelude.{Ok, Option, min, ◌≡◌, ◌≢◌, ◌+◌, ◌<◌, ◌≤◌, ◌-◌, ◌∷◌, [], ◌⊎◌, get_or, ℕ, List, Some, length, IfOk, OnOk, MatchOption, Err};
 ghost use Rattle.std.specs.declared.cmp.Ordering.TheVariants.{Less};
 ghost use Rattle.std.specs.Option.{option_copied};
 ghost use Rattle.px_cells.specs.Contents.{value_at};
@@ -7,8 +7,11 @@ ghost use Rattle.px_cells.specs.Order.{key_cmp};
 ghost use Rattle.px_cells.specs.Rows.{IsBeforeEnd};
 ghost use Rattle.px_cells.specs.Sight.{IsPlainRegion};
 ghost use Rattle.px_region.specs.Giving.{key_at};
+ghost use Rattle.px_outside.specs.OnDisk.{Rose};
+ghost use Rattle.px_region.specs.OnlyRead.{HasOnlyRead};
 ghost use Rattle.px_region.specs.Promise.{IsAlike, IsSamePromise};
 ghost use Rattle.px_region.specs.Region.{read_of};
+ghost use Rattle.px_region.specs.declared.fault.LookFault.{LookFault as Fault};
 ghost use Rattle.px_trail.specs.Answers.{IsAmong};
 ghost use Rattle.px_calls.specs.Looks.{key_found as found_key_of};
 ghost use Rattle.px_calls.specs.declared.query.FoundKey.{FoundKey as Finding};
@@ -22,7 +25,7 @@ use crate::lent::{Lent, lend};
 use crate::reader::{Reader, find_all};
 use px_calls::FoundKey;
 use px_outside::Disk;
-use px_region::{LookFault, Region};
+use px_region::{FoundRows, LookFault, Region};
 use px_values::{Items, Key};
 use std::alloc::{AllocError, Global};
 
@@ -86,11 +89,13 @@ fn look_part<D: Disk, R: Reader>(
     ensures risen { region.old.looked ≤ region.new.looked }
     ensures alike { IsAlike region.old region.new }
     ensures promised { IsSamePromise region.old region.new }
-    ensures untouched { disk.new ≡ disk.old }
+    ensures undamaged { (file place : ℕ) → result ≢ Err (Fault.Damaged file place) }
+    ensures failed { result ≡ Err Fault.ReadFault → Rose ⟦<D as Disk>⟧ disk.old disk.new }
+    ensures only_read { HasOnlyRead ⟦<D as Disk>⟧ disk.old disk.new }
 {
     reader.law();
-    let _disk = disk;
-    let lent = lend(region, low, high, most);
+    let FoundRows { cells, is_all } = region.read_rows(disk, low, high, most)?;
+    let lent = lend(cells.as_slice(), is_all, most);
     let rows = lent.rows;
     let Ok(end) = end_of(alloc, &lent) else {
         return Err(LookFault::Memory);
@@ -98,6 +103,7 @@ fn look_part<D: Disk, R: Reader>(
     let Ok(found) = find_all(alloc, reader, lent.cells) else {
         return Err(LookFault::Memory);
     };
+    drop(cells);
     region.look_at(rows);
     Ok(Part { found, end })
 }
@@ -178,6 +184,7 @@ fn left_of(found: &[FoundKey]) -> u64
 /// What is to be done where the keys are gone through up to before `end`.
 fn way_from(alloc: Global, from: &mut Key, end: Key, found: &[FoundKey]) -> Result<Way, LookFault>
     requires { length found.now ≤ 64 }
+    ensures memory { (fault : Fault) → result ≡ Err fault → fault ≡ Fault.Memory }
     ensures more { result ≡ Ok Way.More → (from.new ≡ end) × (length found.now < 64) }
     ensures over { (next : Option (List ℕ)) → result ≡ Ok (Way.Over next) → (length found.now ≡ 64) × ((n : List ℕ) × (next ≡ Some n) × ((f : Finding) → f ≡ get_or found.now (length found.now - 1) f → n ≡ found_key_of f)) }
 {
@@ -212,7 +219,9 @@ fn look_on<D: Disk, R: Reader>(
     ensures risen { region.old.looked ≤ region.new.looked }
     ensures alike { IsAlike region.old region.new }
     ensures promised { IsSamePromise region.old region.new }
-    ensures untouched { disk.new ≡ disk.old }
+    ensures undamaged { (file place : ℕ) → result ≢ Err (Fault.Damaged file place) }
+    ensures failed { result ≡ Err Fault.ReadFault → Rose ⟦<D as Disk>⟧ disk.old disk.new }
+    ensures only_read { HasOnlyRead ⟦<D as Disk>⟧ disk.old disk.new }
 {
     let most = left_of(found.as_slice());
     let Part {
@@ -245,7 +254,9 @@ pub(crate) fn look_next<D: Disk, R: Reader>(
     ensures risen { region.old.looked ≤ region.new.looked }
     ensures alike { IsAlike region.old region.new }
     ensures promised { IsSamePromise region.old region.new }
-    ensures untouched { disk.new ≡ disk.old }
+    ensures undamaged { (file place : ℕ) → result ≢ Err (Fault.Damaged file place) }
+    ensures failed { result ≡ Err Fault.ReadFault → Rose ⟦<D as Disk>⟧ disk.old disk.new }
+    ensures only_read { HasOnlyRead ⟦<D as Disk>⟧ disk.old disk.new }
 {
     let Ok(mut from) = first_of(alloc, low, after) else {
         return Err(LookFault::Memory);

@@ -1,10 +1,13 @@
 // The rows of a table's path.
-ghost use Rattle.std.specs.Prelude.{◌≡◌, ◌≤◌, ℕ, List, IfOk, length};
+ghost use Rattle.std.specs.Prelude.{◌≡◌, ◌≤◌, ℕ, List, IfOk, length, ◌≢◌, Err};
 ghost use Rattle.std.specs.Option.{option_copied};
 ghost use Rattle.px_cells.specs.Contents.{value_at};
 ghost use Rattle.px_cells.specs.Sight.{IsPlainRegion};
+ghost use Rattle.px_outside.specs.OnDisk.{Rose};
+ghost use Rattle.px_region.specs.OnlyRead.{HasOnlyRead};
 ghost use Rattle.px_region.specs.Promise.{IsAlike, IsSamePromise};
 ghost use Rattle.px_region.specs.Region.{read_of};
+ghost use Rattle.px_region.specs.declared.fault.LookFault.{LookFault as Fault};
 ghost use Rattle.px_rows.specs.Keys.{IsRightTable, row_columns};
 ghost use Rattle.px_rows.specs.Spelled.{IsPlainAt};
 ghost use Rattle.px_looks.specs.Counted.{HasCounted};
@@ -82,7 +85,7 @@ impl<'a> Reader for RowReader<'a> {
 /// their keys, at most 64, and none missing up to the last. Where there may be more, `next` is the key of the last.
 ///
 /// The rows are found in logarithmic time and read one after the other; each one that is looked at is counted, also one that
-/// doesn't stand at the point. Nothing else of the region or the disk changes. It is refused with `Memory` alone.
+/// doesn't stand at the point. Nothing else of the region changes, and the disk is only read.
 pub fn look_rows<D: Disk>(
     alloc: Global,
     disk: &mut D,
@@ -101,7 +104,9 @@ pub fn look_rows<D: Disk>(
     ensures risen { region.old.looked ≤ region.new.looked }
     ensures alike { IsAlike region.old region.new }
     ensures promised { IsSamePromise region.old region.new }
-    ensures untouched { disk.new ≡ disk.old }
+    ensures undamaged { (file place : ℕ) → result ≢ Err (Fault.Damaged file place) }
+    ensures failed { result ≡ Err Fault.ReadFault → Rose ⟦<D as Disk>⟧ disk.old disk.new }
+    ensures only_read { HasOnlyRead ⟦<D as Disk>⟧ disk.old disk.new }
 {
     let Ok(columns) = columns_of(alloc, table) else {
         return Err(LookFault::Memory);

@@ -1,11 +1,14 @@
 // The version of an index key that a point sees.
-ghost use Rattle.std.specs.Prelude.{◌≡◌, ◌+◌, ◌∷◌, [], ℕ, List, None, Some, suc, nat_eq, IfOk, MatchOption, map, min};
+ghost use Rattle.std.specs.Prelude.{◌≡◌, ◌+◌, ◌∷◌, [], ℕ, List, None, Some, suc, nat_eq, IfOk, MatchOption, map, min, ◌≢◌, Err};
 ghost use Rattle.std.specs.Cmp.Lexicographic.{pointwise};
 ghost use Rattle.px_cells.specs.Contents.{value_at};
 ghost use Rattle.px_cells.specs.Order.{IsCellList};
 ghost use Rattle.px_cells.specs.Sight.{IsPlainRegion};
+ghost use Rattle.px_outside.specs.OnDisk.{Rose};
+ghost use Rattle.px_region.specs.OnlyRead.{HasOnlyRead};
 ghost use Rattle.px_region.specs.Promise.{IsAlike, IsSamePromise};
 ghost use Rattle.px_region.specs.Region.{read_of};
+ghost use Rattle.px_region.specs.declared.fault.LookFault.{LookFault as Fault};
 ghost use Rattle.px_rows.specs.inner.Found.{AreOf};
 ghost use Rattle.px_looks.specs.Found.{at_key};
 ghost use Rattle.px_looks.specs.Versions.{HasNoDelete, version_at};
@@ -120,8 +123,8 @@ fn version_in(
 
 /// The version of an index key that a point sees of the index's region: none where it sees none.
 ///
-/// It is found in logarithmic time by the cells of the key, and counts as one row looked at. Nothing else of the region or
-/// the disk changes. It is refused with `Memory` alone.
+/// It is found in logarithmic time by the cells of the key, and counts as one row looked at. Nothing else of the region changes,
+/// and the disk is only read.
 pub fn key_version<D: Disk>(
     alloc: Global,
     disk: &mut D,
@@ -135,11 +138,14 @@ pub fn key_version<D: Disk>(
     ensures looked { region.new.looked ≡ min (region.old.looked + 1) 18446744073709551615 }
     ensures alike { IsAlike region.old region.new }
     ensures promised { IsSamePromise region.old region.new }
-    ensures untouched { disk.new ≡ disk.old }
+    ensures undamaged { (file place : ℕ) → result ≢ Err (Fault.Damaged file place) }
+    ensures failed { result ≡ Err Fault.ReadFault → Rose ⟦<D as Disk>⟧ disk.old disk.new }
+    ensures only_read { HasOnlyRead ⟦<D as Disk>⟧ disk.old disk.new }
 {
-    let _disk = disk;
     region.look_at(1);
-    let Ok(version) = version_in(alloc, region.row(key), index.included.as_slice(), point) else {
+    let cells = region.read_row(disk, key)?;
+    let columns = index.included.as_slice();
+    let Ok(version) = version_in(alloc, cells.as_slice(), columns, point) else {
         return Err(LookFault::Memory);
     };
     Ok(version)

@@ -1,5 +1,8 @@
 // The row of a doubt, and what is to be done with its version.
-ghost use Rattle.std.specs.Prelude.{◌≡◌, ◌≤◌, ◌+◌, ◌↔◌, ℕ, List, IfOk};
+ghost use Rattle.std.specs.Prelude.{◌≡◌, ◌≤◌, ◌+◌, ◌↔◌, ℕ, List, IfOk, ◌≢◌, Err};
+ghost use Rattle.px_outside.specs.OnDisk.{Rose};
+ghost use Rattle.px_region.specs.OnlyRead.{HasOnlyRead};
+ghost use Rattle.px_region.specs.declared.fault.LookFault.{LookFault as LookFaults};
 ghost use Rattle.px_calls.specs.Calls.{IsInFlight};
 ghost use Rattle.px_calls.specs.Requires.{CanConsult};
 ghost use Rattle.px_forms.specs.Indexes.{IndexForm};
@@ -25,7 +28,7 @@ use std::alloc::Global;
 /// The row of a doubt at the point, if its index key is the doubt's, and what is to be done with the version: nothing exactly where its
 /// change is under way.
 ///
-/// It is refused with `Memory` alone, where the index doesn't stand as it was too; of a point that a server opened it does.
+/// The disk is only read. It is refused with `Memory` where the index doesn't stand as it was, too; of a point that a server opened it does.
 pub fn consult<D: Disk>(
     alloc: Global,
     disk: &mut D,
@@ -40,7 +43,9 @@ pub fn consult<D: Disk>(
     ensures leave { IfOk result (λ c. (b : Base) (es : List Entries) (hs : List HeldBatch) → IsLegal b es → IsTallied b es group.old hs → (c.verdict ≡ Leave) ↔ IsInFlight b es d.now) }
     ensures counted { group.new.rows.looked ≤ group.old.rows.looked + 1 }
     ensures looked { HasLooked group.old group.new }
-    ensures untouched { disk.new ≡ disk.old }
+    ensures undamaged { (file place : ℕ) → result ≢ Err (LookFaults.Damaged file place) }
+    ensures failed { result ≡ Err LookFaults.ReadFault → Rose ⟦<D as Disk>⟧ disk.old disk.new }
+    ensures only_read { HasOnlyRead ⟦<D as Disk>⟧ disk.old disk.new }
 {
     match index_place(&group.indexes, p, d.index) {
         Some(place) => {

@@ -1,5 +1,8 @@
 // The next keys of a path.
-ghost use Rattle.std.specs.Prelude.{◌≡◌, ℕ, List, IfOk, length};
+ghost use Rattle.std.specs.Prelude.{◌≡◌, ℕ, List, IfOk, length, ◌≢◌, Err};
+ghost use Rattle.px_outside.specs.OnDisk.{Rose};
+ghost use Rattle.px_region.specs.OnlyRead.{HasOnlyRead};
+ghost use Rattle.px_region.specs.declared.fault.LookFault.{LookFault as LookFaults};
 ghost use Rattle.std.specs.Option.{option_copied};
 ghost use Rattle.px_calls.specs.Looks.{Shows, ShowsRows};
 ghost use Rattle.px_calls.specs.Requires.{CanLook};
@@ -37,7 +40,7 @@ fn bytes_if(key: &Option<Key>) -> Option<&[u8]>
 
 /// The next keys of the path past `after`. By an index, a key is sure exactly where its version is verified, and no row of the table is looked at.
 ///
-/// It is refused with `Memory` alone, where an index doesn't stand as it was too; of a point that a server opened it does.
+/// The disk is only read. It is refused with `Memory` where an index doesn't stand as it was, too; of a point that a server opened it does.
 pub fn look<D: Disk>(
     alloc: Global,
     disk: &mut D,
@@ -55,7 +58,9 @@ pub fn look<D: Disk>(
     ensures counted { IfOk result (λ n. HasCountedBy group.old group.new path.now.by (length n.found)) }
     ensures looked { HasLooked group.old group.new }
     ensures no_row { (i : Number) → path.now.by ≡ ByIndex i → group.new.rows ≡ group.old.rows }
-    ensures untouched { disk.new ≡ disk.old }
+    ensures undamaged { (file place : ℕ) → result ≢ Err (LookFaults.Damaged file place) }
+    ensures failed { result ≡ Err LookFaults.ReadFault → Rose ⟦<D as Disk>⟧ disk.old disk.new }
+    ensures only_read { HasOnlyRead ⟦<D as Disk>⟧ disk.old disk.new }
 {
     let low = path.low.as_slice();
     let high = bytes_if(&path.high);

@@ -1,5 +1,8 @@
 // The row of a doubt, and what is to be done with its version.
-ghost use Rattle.std.specs.Prelude.{◌≡◌, ◌≢◌, ◌<◌, ◌≤◌, ◌+◌, ◌↔◌, ℕ, true, List, None, Some, IfOk, length, slice_get};
+ghost use Rattle.std.specs.Prelude.{◌≡◌, ◌≢◌, ◌<◌, ◌≤◌, ◌+◌, ◌↔◌, ℕ, true, List, None, Some, IfOk, length, slice_get, Err};
+ghost use Rattle.px_outside.specs.OnDisk.{Rose};
+ghost use Rattle.px_region.specs.OnlyRead.{HasOnlyRead};
+ghost use Rattle.px_region.specs.declared.fault.LookFault.{LookFault as LookFaults};
 ghost use Rattle.px_cells.specs.Contents.{value_at};
 ghost use Rattle.px_forms.specs.Indexes.{IndexForm};
 ghost use Rattle.px_groupworld.specs.Group.{GroupData, shape_in, world_in};
@@ -65,7 +68,7 @@ fn held_in(
 
 /// The version that is seen of a key of the index at a place, by a point at or above both the stamp and the horizon.
 ///
-/// It looks at no row of the table. It is refused with `Memory` alone.
+/// It looks at no row of the table. The disk is only read.
 pub fn version_of_doubt<D: Disk>(
     alloc: Global,
     disk: &mut D,
@@ -79,7 +82,9 @@ pub fn version_of_doubt<D: Disk>(
     ensures seen { IfOk result (λ seen. (x : Part) → slice_get group.old.indexes.items place ≡ Some x → seen ≡ version_seen group.old x key.now stamp) }
     ensures looked { HasLooked group.old group.new }
     ensures no_row { group.new.rows ≡ group.old.rows }
-    ensures untouched { disk.new ≡ disk.old }
+    ensures undamaged { (file place : ℕ) → result ≢ Err (LookFaults.Damaged file place) }
+    ensures failed { result ≡ Err LookFaults.ReadFault → Rose ⟦<D as Disk>⟧ disk.old disk.new }
+    ensures only_read { HasOnlyRead ⟦<D as Disk>⟧ disk.old disk.new }
 {
     let part = &mut group.indexes[place];
     let horizon = greater(part.index.birth, group.horizon);
@@ -123,7 +128,7 @@ fn answered(
 /// The row that holds a key of the index at a place as a point sees it, and what is to be done with the version of this stamp: nothing
 /// exactly where an open batch of the stamp is still to write the row.
 ///
-/// It looks at one row of the table. A current point sees up to the greatest stamp. It is refused with `Memory` alone.
+/// It looks at one row of the table. A current point sees up to the greatest stamp. The disk is only read.
 pub fn consult<D: Disk>(
     alloc: Global,
     disk: &mut D,
@@ -141,7 +146,9 @@ pub fn consult<D: Disk>(
     ensures due { IfOk result (λ c. (x : Part) → slice_get group.old.indexes.items place ≡ Some x → (b : Base) (index : ℕ → IndexForm) (es : List Entries) (v : GroupData) (hs : List HeldBatch) → IsTallied b es group.old hs → IsShownBy b index es group.old v hs → IsToldBy b index es group.old v → (stamp ≤ horizon_at group.old x → version_seen group.old x key.now stamp ≢ None) → verdict_of c.verdict ≡ due (shape_in (form_of b index group.old) v place (row_of_index group.old.table x.index key.now)) (world_in (form_of b index group.old) es v place (row_of_index group.old.table x.index key.now)) key.now stamp) }
     ensures looked { HasLooked group.old group.new }
     ensures counted { group.new.rows.looked ≤ group.old.rows.looked + 1 }
-    ensures untouched { disk.new ≡ disk.old }
+    ensures undamaged { (file place : ℕ) → result ≢ Err (LookFaults.Damaged file place) }
+    ensures failed { result ≡ Err LookFaults.ReadFault → Rose ⟦<D as Disk>⟧ disk.old disk.new }
+    ensures only_read { HasOnlyRead ⟦<D as Disk>⟧ disk.old disk.new }
 {
     let seen = version_of_doubt(alloc, disk, group, place, key, stamp)?;
     let doubted = row_of_doubt(alloc, disk, group, place, key)?;

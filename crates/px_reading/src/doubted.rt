@@ -1,5 +1,8 @@
 // The row of a doubted key.
-ghost use Rattle.std.specs.Prelude.{◌≡◌, ◌<◌, ◌≤◌, ◌+◌, ℕ, Some, IfOk, length, slice_get};
+ghost use Rattle.std.specs.Prelude.{◌≡◌, ◌<◌, ◌≤◌, ◌+◌, ℕ, Some, IfOk, length, slice_get, ◌≢◌, Err};
+ghost use Rattle.px_outside.specs.OnDisk.{Rose};
+ghost use Rattle.px_region.specs.OnlyRead.{HasOnlyRead};
+ghost use Rattle.px_region.specs.declared.fault.LookFault.{LookFault as LookFaults};
 ghost use Rattle.px_cells.specs.Rows.{IsRow};
 ghost use Rattle.px_cellshapes.specs.Rows.{AreRightRows};
 ghost use Rattle.px_indexrow.specs.Form.{row_of_index};
@@ -101,7 +104,9 @@ fn cells_of_row<D: Disk>(
     ensures cells { IfOk result (λ cells. IsRow (read_of rows.old) (row_key table.now row.now) cells.items) }
     ensures counted { rows.new.looked ≤ rows.old.looked + 1 }
     ensures looked { IsLookedAt rows.old rows.new }
-    ensures untouched { disk.new ≡ disk.old }
+    ensures undamaged { (file place : ℕ) → result ≢ Err (LookFaults.Damaged file place) }
+    ensures failed { result ≡ Err LookFaults.ReadFault → Rose ⟦<D as Disk>⟧ disk.old disk.new }
+    ensures only_read { HasOnlyRead ⟦<D as Disk>⟧ disk.old disk.new }
 {
     match key_of(alloc, table, row) {
         Ok(key) => row_cells(alloc, disk, rows, key.as_slice()),
@@ -112,7 +117,7 @@ fn cells_of_row<D: Disk>(
 
 /// The row of a key of the index at a place.
 ///
-/// It looks at one row of the table. It is refused with `Memory` alone.
+/// It looks at one row of the table. The disk is only read.
 pub fn row_of_doubt<D: Disk>(
     alloc: Global,
     disk: &mut D,
@@ -128,7 +133,9 @@ pub fn row_of_doubt<D: Disk>(
     ensures looked { HasLooked group.old group.new }
     ensures counted { group.new.rows.looked ≤ group.old.rows.looked + 1 }
     ensures indexes { group.new.indexes ≡ group.old.indexes }
-    ensures untouched { disk.new ≡ disk.old }
+    ensures undamaged { (file place : ℕ) → result ≢ Err (LookFaults.Damaged file place) }
+    ensures failed { result ≡ Err LookFaults.ReadFault → Rose ⟦<D as Disk>⟧ disk.old disk.new }
+    ensures only_read { HasOnlyRead ⟦<D as Disk>⟧ disk.old disk.new }
 {
     let Ok(row) = owner_of(alloc, &group.table, &group.indexes[place].index, key) else {
         return Err(LookFault::Memory);

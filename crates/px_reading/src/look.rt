@@ -1,5 +1,8 @@
 // The next keys of a table's paths.
-ghost use Rattle.std.specs.Prelude.{◌≡◌, ◌<◌, ◌≤◌, ℕ, List, Some, IfOk, length, max, slice_get};
+ghost use Rattle.std.specs.Prelude.{◌≡◌, ◌<◌, ◌≤◌, ℕ, List, Some, IfOk, length, max, slice_get, ◌≢◌, Err};
+ghost use Rattle.px_outside.specs.OnDisk.{Rose};
+ghost use Rattle.px_region.specs.OnlyRead.{HasOnlyRead};
+ghost use Rattle.px_region.specs.declared.fault.LookFault.{LookFault as LookFaults};
 ghost use Rattle.std.specs.Option.{option_copied};
 ghost use Rattle.px_calls.specs.Looks.{Shows, ShowsRows};
 ghost use Rattle.px_calls.specs.declared.query.By.TheVariants.{Index as ByIndex, Table as ByTable};
@@ -27,7 +30,7 @@ use std::alloc::Global;
 /// The next rows of a table that a point sees, from the key `low` on and below `high`, past the key `after`: at most 64, in the order of
 /// their keys, and none missing up to the last. Where there may be more, `next` is the key of the last.
 ///
-/// A current point sees up to the greatest stamp. It is refused with `Memory` alone.
+/// A current point sees up to the greatest stamp. The disk is only read.
 pub fn look_rows<D: Disk>(
     alloc: Global,
     disk: &mut D,
@@ -42,7 +45,9 @@ pub fn look_rows<D: Disk>(
     ensures rows { IfOk result (λ n. (b : Base) (index : ℕ → IndexForm) (es : List Entries) (v : GroupData) (hs : List HeldBatch) → IsShownBy b index es group.old v hs → (p : PointData) → IsPointOfTable group.old.table p → reach_of p ≡ point → horizon_of b group.old.table.id.0 es ≤ point → (path : PathData) → path.by ≡ ByTable → path.low ≡ low.now → path.high ≡ option_copied high.entry → ShowsRows b es p path (option_copied after.entry) n.found n.next) }
     ensures counted { IfOk result (λ n. HasCounted group.old.rows group.new.rows (length n.found)) }
     ensures looked { HasLooked group.old group.new }
-    ensures untouched { disk.new ≡ disk.old }
+    ensures undamaged { (file place : ℕ) → result ≢ Err (LookFaults.Damaged file place) }
+    ensures failed { result ≡ Err LookFaults.ReadFault → Rose ⟦<D as Disk>⟧ disk.old disk.new }
+    ensures only_read { HasOnlyRead ⟦<D as Disk>⟧ disk.old disk.new }
 {
     px_looks::look_rows(
         alloc,
@@ -60,7 +65,7 @@ pub fn look_rows<D: Disk>(
 /// their order, each once, at most 64, and none missing up to the last. A verified version is sure, with the row that the index
 /// shows, and another one is in doubt. Where there may be more, `next` is the key of the last.
 ///
-/// It looks at no row of the table. A current point sees up to the greatest stamp. It is refused with `Memory` alone.
+/// It looks at no row of the table. A current point sees up to the greatest stamp. The disk is only read.
 pub fn look_keys<D: Disk>(
     alloc: Global,
     disk: &mut D,
@@ -79,7 +84,9 @@ pub fn look_keys<D: Disk>(
     ensures counted { IfOk result (λ n. HasCountedAt group.old.indexes.items group.new.indexes.items place (length n.found)) }
     ensures looked { HasLooked group.old group.new }
     ensures no_row { group.new.rows ≡ group.old.rows }
-    ensures untouched { disk.new ≡ disk.old }
+    ensures undamaged { (file place : ℕ) → result ≢ Err (LookFaults.Damaged file place) }
+    ensures failed { result ≡ Err LookFaults.ReadFault → Rose ⟦<D as Disk>⟧ disk.old disk.new }
+    ensures only_read { HasOnlyRead ⟦<D as Disk>⟧ disk.old disk.new }
 {
     let part = &mut group.indexes[place];
     px_looks::look_keys(

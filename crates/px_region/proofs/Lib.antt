@@ -10,3 +10,4 @@ pub mod Right
 pub mod Alike
 pub mod Calls
 pub mod Logged
+pub mod OnlyRead

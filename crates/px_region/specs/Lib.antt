@@ -8,3 +8,4 @@ pub mod Faults
 pub mod Calls
 pub mod Ordered
 pub mod Forgetting
+pub mod OnlyRead

@@ -13,6 +13,10 @@ pub enum PromiseFault {
 /// Why a row or a range isn't given.
 #[derive(Clone, Copy, Debug, PartialEq, Eq)]
 pub enum LookFault {
+    /// The disk failed in a read.
+    ReadFault,
+    /// At this place of a file the disk gave what isn't of the format, or what wasn't written there.
+    Damaged { file: u64, place: u64 },
     Memory,
 }
 

@@ -23,6 +23,7 @@ pub use fault::{JobFault, LookFault, PromiseFault};
 pub use forget::ForgetStep;
 pub use prepare::JobStep;
 pub use px_memstore::FirstRows;
+pub use reading::FoundRows;
 pub use region::Region;
 pub use stamps::LeastStamps;
 pub use taker::CellTaker;

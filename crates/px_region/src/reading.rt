@@ -1,5 +1,5 @@
 // What is read of a region.
-ghost use Rattle.std.specs.Prelude.{◌≡◌, ◌≤◌, ◌<◌, ◌+◌, ◌++◌, [], List, length, get_or, min, OnOk};
+ghost use Rattle.std.specs.Prelude.{◌≡◌, ◌≢◌, ◌≤◌, ◌<◌, ◌+◌, ◌++◌, [], ℕ, Err, List, length, get_or, min, IfOk, OnOk};
 ghost use Rattle.px_cells.specs.CellData.{CellData};
 ghost use Rattle.px_memstore.specs.Pieces.{AreFirstRows, ArePiecesApart, chained};
 
@@ -8,6 +8,15 @@ use px_cells::Cell;
 use px_memstore::FirstRows;
 use px_outside::Disk;
 use std::alloc::AllocError;
+use std::borrow::CowSlice;
+
+/// The first rows of a range: lent, or gathered where they don't lie side by side in memory.
+#[derive(Drop)]
+pub struct FoundRows<'a> {
+    pub cells: CowSlice<'a, Cell>,
+    /// Whether these are all.
+    pub is_all: bool,
+}
 
 /// Gives all cells.
 fn give_all<T: CellTaker>(cells: &[Cell], taker: &mut T) -> Result<(), AllocError>
@@ -23,8 +32,11 @@ impl Region {
     ghost use Rattle.px_cells.specs.Order.{IsAscending};
     ghost use Rattle.px_region.specs.Region.{RegionData, RegionHolds, data_of, logged_of, pieces_of, read_of};
     ghost use Rattle.px_region.specs.Promise.{IsAlike, IsSamePromise};
-    ghost use Rattle.px_outside.specs.OnDisk.{Stays};
+    ghost use Rattle.px_region.specs.OnlyRead.{HasOnlyRead};
+    ghost use Rattle.px_region.specs.declared.fault.LookFault.{LookFault as Fault};
+    ghost use Rattle.px_outside.specs.OnDisk.{Rose};
     ghost use Rattle.px_cells.specs.Rows.{IsRow};
+    ghost use Rattle.std.specs.Cow.{cow_slice_items};
     ghost use Rattle.std.specs.Option.{option_copied};
 
     /// How many pieces the sorted list of what is read of it is lent in. One behind the other they are its cells, and no row is in two of
@@ -79,6 +91,50 @@ impl Region {
         ensures { AreFirstRows (read_of self.now) low.now (option_copied high.entry) result.cells.now result.is_all }
     {
         self.store.rows(low, high)
+    }
+
+    /// The cells of one row, all its versions, in order: lent where they stand in memory, so that they aren't copied. They aren't counted as
+    /// looked at.
+    ///
+    /// The disk is only read. It is refused with `ReadFault` where a read failed. All cells are in memory, so none is damaged.
+    pub fn read_row<D: Disk>(
+        &self,
+        disk: &mut D,
+        key: &[u8],
+    ) -> Result<CowSlice<'_, Cell>, LookFault>
+        ensures row { IfOk result (λ cells. IsRow (read_of self.now) key.now (cow_slice_items cells)) }
+        ensures undamaged { (file place : ℕ) → result ≢ Err (Fault.Damaged file place) }
+        ensures failed { result ≡ Err Fault.ReadFault → Rose ⟦<D as Disk>⟧ disk.old disk.new }
+        ensures only_read { HasOnlyRead ⟦<D as Disk>⟧ disk.old disk.new }
+    {
+        let _disk = disk;
+        Ok(CowSlice::Borrowed(self.store.row(key)))
+    }
+
+    /// The first rows from a key on and, if one is given, up to before another, in order: there is one where there is any in the range. So
+    /// many are wanted: what is lent may be more, and no more are gathered. They aren't counted as looked at.
+    ///
+    /// The disk is only read. It is refused with `ReadFault` where a read failed. All cells are in memory, so none is damaged.
+    pub fn read_rows<D: Disk>(
+        &self,
+        disk: &mut D,
+        low: &[u8],
+        high: Option<&[u8]>,
+        most: u64,
+    ) -> Result<FoundRows<'_>, LookFault>
+        requires { 0 < most }
+        ensures rows { IfOk result (λ found. AreFirstRows (read_of self.now) low.now (option_copied high.entry) (cow_slice_items found.cells) found.is_all) }
+        ensures undamaged { (file place : ℕ) → result ≢ Err (Fault.Damaged file place) }
+        ensures failed { result ≡ Err Fault.ReadFault → Rose ⟦<D as Disk>⟧ disk.old disk.new }
+        ensures only_read { HasOnlyRead ⟦<D as Disk>⟧ disk.old disk.new }
+    {
+        let _disk = disk;
+        let _most = most;
+        let FirstRows { cells, is_all } = self.store.rows(low, high);
+        Ok(FoundRows {
+            cells: CowSlice::Borrowed(cells),
+            is_all,
+        })
     }
 
     /// Counts so many rows as looked at.

@@ -16,7 +16,7 @@ use Rattle.px_reading.proofs.Looked.{looked_on}
 use Rattle.px_repairs.specs.Refused.{RefusesCells, RefusesDue, RefusesRepair, RefusesRoom}
 use Rattle.px_repairs.specs.Repairs.{IsRepair}
 use Rattle.px_repairs.specs.declared.repairing.RepairFault.{RepairFault}
-use Rattle.px_repairs.specs.declared.repairing.RepairFault.TheVariants.{Busy, NotReady, WriteFault, Memory}
+use Rattle.px_repairs.specs.declared.repairing.RepairFault.TheVariants.{Busy, NotReady, ReadFault, Damaged, WriteFault, Memory}
 
 pub err_same : {A : Type 0} (a b : RepairFault) → ◌≡◌ {A = Result A RepairFault} (Err a) (Err b) → a ≡ b
 err_same a b e = cc
@@ -37,6 +37,8 @@ refused_more region c n c' n' l m NotReady (inr r) = inr (λ h. r (more_room reg
 refused_more region c n c' n' l m (Busy a b) r = (r.0, more_passes region c n c' n' l m r.1, r.2, r.3)
 refused_more region c n c' n' l m WriteFault r = tt
 refused_more region c n c' n' l m Memory r = tt
+refused_more region c n c' n' l m ReadFault r = r
+refused_more region c n c' n' l m (Damaged file at) r = r
 
 min_less : (n m : ℕ) → m ≡ min n 18446744073709551615 → m ≤ n
 min_less n m e = omega (arith, e)
@@ -71,6 +73,8 @@ module _ (old new : Region) (l : IsLookedAt old new) where
   )
   refused_back c n WriteFault r = tt
   refused_back c n Memory r = tt
+  refused_back c n ReadFault r = r
+  refused_back c n (Damaged file place) r = r
 
 -- ---- the repair
 
@@ -85,3 +89,5 @@ module _ (g looked : Group) (has : HasLooked g looked) (place : ℕ) (x : IndexR
   repair_refused (Busy cells bytes) r = due_refused (Busy cells bytes) r
   repair_refused WriteFault r = tt
   repair_refused Memory r = tt
+  repair_refused ReadFault r = tt
+  repair_refused (Damaged file damaged) r = tt

@@ -9,7 +9,7 @@ use Rattle.px_region.specs.declared.region.Region.{Region}
 use Rattle.px_reading.specs.Looked.{HasLooked}
 use Rattle.px_repairs.specs.Repairs.{IsRepair}
 use Rattle.px_repairs.specs.declared.repairing.RepairFault.{RepairFault}
-use Rattle.px_repairs.specs.declared.repairing.RepairFault.TheVariants.{Busy, NotReady, WriteFault, Memory}
+use Rattle.px_repairs.specs.declared.repairing.RepairFault.TheVariants.{Busy, NotReady, ReadFault, Damaged, WriteFault, Memory}
 
 -- The region refuses room for so many cells and bytes: its log isn't open or has no room for them, or it would have too many, which are told
 -- without these.
@@ -18,6 +18,8 @@ RefusesRoom region cells bytes NotReady = (IsLogReady region → ⊥) ⊎ (HasLo
 RefusesRoom region cells bytes (Busy had had_bytes) = IsLogReady region × PassesLimit region cells bytes × (had ≡ region.cells + region.promised) × (had_bytes ≡ region.bytes + region.promised_bytes)
 RefusesRoom region cells bytes WriteFault = Unit {0}
 RefusesRoom region cells bytes Memory = Unit {0}
+RefusesRoom region cells bytes ReadFault = ⊥
+RefusesRoom region cells bytes (Damaged file damaged) = ⊥
 
 -- for these cells
 abbrev pub RefusesCells : Region → List CellData → RepairFault → Type 0
@@ -37,3 +39,5 @@ RefusesRepair g place x k s NotReady = RefusesDue g place x k s NotReady
 RefusesRepair g place x k s (Busy cells bytes) = RefusesDue g place x k s (Busy cells bytes)
 RefusesRepair g place x k s WriteFault = Unit {0}
 RefusesRepair g place x k s Memory = Unit {0}
+RefusesRepair g place x k s ReadFault = Unit {0}
+RefusesRepair g place x k s (Damaged file damaged) = Unit {0}

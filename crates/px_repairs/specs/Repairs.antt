@@ -1,11 +1,15 @@
 -- A repair of a doubted version: when one is due, its cells, and what it does to its table.
 use Rattle.std.specs.Prelude.{◌≡◌, ◌≤◌, ℕ, Bool, true, false, cond, not, ◌&&◌, nat_eq, nat_le, List, length, slice_get, Option, None, Some, Result, Ok, Err}
 use Rattle.std.proofs.Math.ListN.{set}
+use Rattle.px_outside.specs.OnDisk.{Rose}
 use Rattle.px_outside.specs.declared.disk.Disk.{Ghosts}
 use Rattle.px_calls.specs.declared.query.Fixing.{Fixing}
 use Rattle.px_calls.specs.declared.query.Fixing.TheVariants as fixing
 use Rattle.px_cells.specs.CellData.{CellData}
+use Rattle.px_region.specs.OnlyRead.{HasOnlyRead}
 use Rattle.px_region.specs.Promise.{IsSamePromise}
+use Rattle.px_region.specs.declared.fault.LookFault.{LookFault}
+use Rattle.px_region.specs.declared.fault.LookFault.TheVariants as look
 use Rattle.px_region.specs.declared.region.Region.{Region}
 use Rattle.px_values.specs.States.{RowState}
 use Rattle.px_trail.specs.Trail.{Base}
@@ -30,7 +34,7 @@ use Rattle.px_reading.specs.Looked.{HasLooked, IsLookedAt}
 use Rattle.px_repairs.specs.declared.judging.Judged.{Judged}
 use Rattle.px_repairs.specs.declared.judging.Judged.TheVariants.{Gone, InFlight, Due}
 use Rattle.px_repairs.specs.declared.repairing.RepairFault.{RepairFault}
-use Rattle.px_repairs.specs.declared.repairing.RepairFault.TheVariants.{Busy, NotReady, WriteFault, Memory}
+use Rattle.px_repairs.specs.declared.repairing.RepairFault.TheVariants.{Busy, NotReady, ReadFault, Damaged, WriteFault, Memory}
 
 -- 1. When one is due
 
@@ -112,6 +116,15 @@ pub record WroteRepair {D : Type 0} (d : Ghosts D) (g g' : Group) (disk disk' : 
   pub step : IsRegionStep g g' place index region
   pub wrote : WroteTo d index.region region disk disk' kept
 
+-- the fault tells nothing of the disk
+abbrev pub TellsNoDisk : RepairFault → Type 0
+TellsNoDisk (Busy cells bytes) = Unit {0}
+TellsNoDisk NotReady = Unit {0}
+TellsNoDisk Memory = Unit {0}
+TellsNoDisk ReadFault = ⊥
+TellsNoDisk (Damaged file place) = ⊥
+TellsNoDisk WriteFault = ⊥
+
 -- what writing to a region leaves, by the answer: a refusal of room leaves it as it was
 abbrev pub Written : {D T : Type 0} → Ghosts D → Region → Region → D → D → List CellData → Result T RepairFault → Type 0
 Written d old new disk disk' kept (Ok done) = WroteTo d old new disk disk' kept
@@ -119,6 +132,8 @@ Written d old new disk disk' kept (Err WriteFault) = HandsTo d old new disk disk
 Written d old new disk disk' kept (Err (Busy cells bytes)) = IsLookedAt old new × (disk' ≡ disk)
 Written d old new disk disk' kept (Err NotReady) = IsLookedAt old new × (disk' ≡ disk)
 Written d old new disk disk' kept (Err Memory) = IsLookedAt old new × (disk' ≡ disk)
+Written d old new disk disk' kept (Err ReadFault) = ⊥
+Written d old new disk disk' kept (Err (Damaged file damaged)) = ⊥
 
 -- the table was looked at alone
 pub record HasStayed {D : Type 0} (g g' : Group) (disk disk' : D) : Type 0 where
@@ -132,31 +147,51 @@ Repaired d g g' disk disk' place kept (Err WriteFault) = HandsRepair d g g' disk
 Repaired d g g' disk disk' place kept (Err (Busy cells bytes)) = HasStayed g g' disk disk'
 Repaired d g g' disk disk' place kept (Err NotReady) = HasStayed g g' disk disk'
 Repaired d g g' disk disk' place kept (Err Memory) = HasStayed g g' disk disk'
+Repaired d g g' disk disk' place kept (Err ReadFault) = ⊥
+Repaired d g g' disk disk' place kept (Err (Damaged file damaged)) = ⊥
 
 -- 3. Both
 
--- the table was looked at, and the repair that is due was written
+-- why it isn't made where the index or the row isn't read
+abbrev pub repair_fault_of : LookFault → RepairFault
+repair_fault_of look.ReadFault = ReadFault
+repair_fault_of (look.Damaged file place) = Damaged file place
+repair_fault_of look.Memory = Memory
+
+-- the table was looked at alone, and the disk only read
+pub record HasOnlyLooked {D : Type 0} (d : Ghosts D) (g g' : Group) (disk disk' : D) : Type 0 where
+  pub looked : HasLooked g g'
+  pub reads : HasOnlyRead d disk disk'
+
+-- the table was looked at, and then the repair that is due was written
 pub record HasFixed {D : Type 0} (d : Ghosts D) (g g' : Group) (disk disk' : D) (place : ℕ) (k : List ℕ) (s : ℕ) : Type 0 where
   pub looked : Group
+  pub read : D
   pub has : HasLooked g looked
+  pub reads : HasOnlyRead d disk read
   pub kept : List CellData
   pub due : IsRepair looked place k s kept
-  pub wrote : WroteRepair d looked g' disk disk' place kept
+  pub wrote : WroteRepair d looked g' read disk' place kept
 
 -- or it was handed over, and the disk failed
 pub record HasFailedRepair {D : Type 0} (d : Ghosts D) (g g' : Group) (disk disk' : D) (place : ℕ) (k : List ℕ) (s : ℕ) : Type 0 where
   pub looked : Group
+  pub read : D
   pub has : HasLooked g looked
+  pub reads : HasOnlyRead d disk read
   pub kept : List CellData
   pub due : IsRepair looked place k s kept
-  pub hands : HandsRepair d looked g' disk disk' place kept
+  pub hands : HandsRepair d looked g' read disk' place kept
+  pub rose : Rose d read disk'
 
 -- what became of the version, by the answer
 abbrev pub Fixes : {D : Type 0} → Ghosts D → Group → Group → D → D → ℕ → List ℕ → ℕ → Result Fixing RepairFault → Type 0
 Fixes d g g' disk disk' place k s (Ok fixing.Fixed) = HasFixed d g g' disk disk' place k s
-Fixes d g g' disk disk' place k s (Ok fixing.Gone) = HasStayed g g' disk disk' × IsJudged g' place k s Gone
-Fixes d g g' disk disk' place k s (Ok fixing.InFlight) = HasStayed g g' disk disk' × IsJudged g' place k s InFlight
+Fixes d g g' disk disk' place k s (Ok fixing.Gone) = HasOnlyLooked d g g' disk disk' × IsJudged g' place k s Gone
+Fixes d g g' disk disk' place k s (Ok fixing.InFlight) = HasOnlyLooked d g g' disk disk' × IsJudged g' place k s InFlight
 Fixes d g g' disk disk' place k s (Err WriteFault) = HasFailedRepair d g g' disk disk' place k s
-Fixes d g g' disk disk' place k s (Err (Busy cells bytes)) = HasStayed g g' disk disk'
-Fixes d g g' disk disk' place k s (Err NotReady) = HasStayed g g' disk disk'
-Fixes d g g' disk disk' place k s (Err Memory) = HasStayed g g' disk disk'
+Fixes d g g' disk disk' place k s (Err (Busy cells bytes)) = HasOnlyLooked d g g' disk disk'
+Fixes d g g' disk disk' place k s (Err NotReady) = HasOnlyLooked d g g' disk disk'
+Fixes d g g' disk disk' place k s (Err Memory) = HasOnlyLooked d g g' disk disk'
+Fixes d g g' disk disk' place k s (Err ReadFault) = HasOnlyLooked d g g' disk disk'
+Fixes d g g' disk disk' place k s (Err (Damaged file damaged)) = HasOnlyLooked d g g' disk disk'

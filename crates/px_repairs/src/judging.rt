@@ -1,5 +1,8 @@
 // Whether a doubted version is still to be repaired.
-ghost use Rattle.std.specs.Prelude.{◌≡◌, ◌<◌, ◌≤◌, ◌+◌, true, Some, IfOk, length, slice_get};
+ghost use Rattle.std.specs.Prelude.{◌≡◌, ◌<◌, ◌≤◌, ◌+◌, true, Some, IfOk, length, slice_get, ◌≢◌, ℕ, Err};
+ghost use Rattle.px_outside.specs.OnDisk.{Rose};
+ghost use Rattle.px_region.specs.OnlyRead.{HasOnlyRead};
+ghost use Rattle.px_region.specs.declared.fault.LookFault.{LookFault as LookFaults};
 ghost use Rattle.px_cells.specs.Rows.{IsRow};
 ghost use Rattle.px_indexrow.specs.Form.{row_of_index};
 ghost use Rattle.px_region.specs.Region.{read_of};
@@ -81,7 +84,7 @@ fn decide(
 
 /// What is to be done with the version of a stamp at a key of the index at a place.
 ///
-/// It looks at one row of the table at most. It is refused with `Memory` alone.
+/// It looks at one row of the table at most. The disk is only read.
 pub fn judge<D: Disk>(
     alloc: Global,
     disk: &mut D,
@@ -95,7 +98,9 @@ pub fn judge<D: Disk>(
     ensures judged { IfOk result (IsJudged group.new place key.now stamp) }
     ensures counted { group.new.rows.looked ≤ group.old.rows.looked + 1 }
     ensures looked { HasLooked group.old group.new }
-    ensures untouched { disk.new ≡ disk.old }
+    ensures undamaged { (file place : ℕ) → result ≢ Err (LookFaults.Damaged file place) }
+    ensures failed { result ≡ Err LookFaults.ReadFault → Rose ⟦<D as Disk>⟧ disk.old disk.new }
+    ensures only_read { HasOnlyRead ⟦<D as Disk>⟧ disk.old disk.new }
 {
     let seen = version_of_doubt(alloc, disk, group, place, key, stamp)?;
     if !is_unverified(&seen, stamp) {

@@ -1,12 +1,12 @@
 // Writing a repair.
-ghost use Rattle.std.specs.Prelude.{◌≡◌, ◌≢◌, ◌<◌, ◌≤◌, ◌+◌, Err, OnErr, OnOk, Some, length, slice_get};
+ghost use Rattle.std.specs.Prelude.{◌≡◌, ◌<◌, ◌≤◌, ◌+◌, Err, IfErr, OnErr, OnOk, Some, length, slice_get};
 ghost use Rattle.px_keptcells.specs.Kept.{laid};
 ghost use Rattle.px_outside.specs.OnDisk.{Rose};
 ghost use Rattle.px_region.specs.Promise.{IsAlike, IsSamePromise};
 ghost use Rattle.px_region.specs.Region.{read_of};
 ghost use Rattle.px_group.specs.declared.group.IndexRegion.{IndexRegion as Part};
 ghost use Rattle.px_repairs.specs.Refused.{RefusesCells, RefusesRoom};
-ghost use Rattle.px_repairs.specs.Repairs.{Repaired, Written};
+ghost use Rattle.px_repairs.specs.Repairs.{Repaired, TellsNoDisk, Written};
 ghost use Rattle.px_repairs.specs.declared.repairing.RepairFault.{RepairFault as Fault};
 
 use px_gatelog::Frame;
@@ -23,6 +23,10 @@ pub enum RepairFault {
     Busy { cells: u64, bytes: u64 },
     /// The region's log has no open segment, or no room in it.
     NotReady,
+    /// The disk failed in a read.
+    ReadFault,
+    /// At this place of a file the disk gave what isn't of the format, or what wasn't written there.
+    Damaged { file: u64, place: u64 },
     /// The disk failed in a write or a sync.
     WriteFault,
     Memory,
@@ -34,7 +38,7 @@ fn take(region: &mut Region, cells: u64, bytes: u64) -> Result<(), RepairFault>
     ensures few { OnOk result ((cells ≤ 16384) × (bytes ≤ 16777216)) }
     ensures refused { OnErr result (IsSamePromise region.old region.new) }
     ensures cause { (fault : Fault) → result ≡ Err fault → RefusesRoom region.old cells bytes fault }
-    ensures quiet { result ≢ Err RepairFault.WriteFault }
+    ensures quiet { IfErr result TellsNoDisk }
     ensures alike { IsAlike region.old region.new }
     ensures read { read_of region.new ≡ read_of region.old }
 {

@@ -6,6 +6,7 @@ use Rattle.px_region.specs.Region.{read_of}
 use Rattle.px_beginning.proofs.Lists.{from_more, transitions_more}
 use Rattle.px_beginning.specs.Reads.{old_in}
 use Rattle.px_region.proofs.Alike.{alike_then}
+use Rattle.px_region.proofs.OnlyRead.{reads_then}
 use Rattle.px_beginning.proofs.rows.transitions_of.Goals as goal
 
 pub loop-place-preserved : goal.loop-place-preserved
@@ -23,5 +24,5 @@ loop-place-preserved g c =
       room = (let n = i.room in let m = c.push_reserved.ensures.capacity in omega arith);
       alike = alike_then _ _ _ i.alike e.alike;
       promised = record { cells = e.promised.cells ∙ i.promised.cells; bytes = e.promised.bytes ∙ i.promised.bytes };
-      untouched = e.untouched ∙ i.untouched;
+      only_read = reads_then g.D.Disk _ _ _ i.only_read e.only_read;
     }

@@ -1,5 +1,6 @@
 use Rattle.std.proofs.Common.{◌≡◌, ◌≤◌, length, take}
 use Rattle.std.specs.Prelude.{vec_len, vec_capacity}
+use Rattle.px_region.specs.OnlyRead.{HasOnlyRead}
 use Rattle.px_region.specs.Promise.{IsAlike, IsSamePromise}
 use Rattle.px_region.specs.Region.{read_of}
 use Rattle.px_phases.specs.Begun.{AreFrom}
@@ -15,5 +16,5 @@ invariant-loop-place g l = record {
   room : length l.changes ≤ vec_capacity l.transitions;
   alike : IsAlike l.fn.rows l.rows;
   promised : IsSamePromise l.fn.rows l.rows;
-  untouched : l.disk ≡ l.fn.disk;
+  only_read : HasOnlyRead g.D.Disk l.fn.disk l.disk;
 }

@@ -9,6 +9,7 @@ use Rattle.px_looks.specs.declared.next.Way.TheVariants.{Over}
 use Rattle.px_looks.specs.inner.Parts.{FoundTo}
 use Rattle.px_looks.proofs.Parts.{nothing_to}
 use Rattle.px_region.proofs.Alike.{alike_refl}
+use Rattle.px_region.proofs.OnlyRead.{reads_none}
 use Rattle.px_looks.proofs.next.look_next.Goals as goal
 
 pub loop-round-init : goal.loop-round-init
@@ -23,7 +24,7 @@ loop-round-init g c =
       promised = record { cells = refl; bytes = refl };
       counted = omega arith;
       risen = omega arith;
-      untouched = refl;
+      only_read = reads_none g.D.Disk g.met.D.Disk.up_to_now c.args.disk.now;
     }
 
 pub returns-in-Over-clause-next : goal.returns-in-Over-clause-next

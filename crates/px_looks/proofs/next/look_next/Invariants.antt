@@ -1,6 +1,7 @@
 use Rattle.std.proofs.Common.{◌≡◌, ◌+◌, ◌<◌, ◌≤◌, length, min}
 use Rattle.std.specs.Option.{option_copied}
 use Rattle.px_cells.specs.Contents.{value_at}
+use Rattle.px_region.specs.OnlyRead.{HasOnlyRead}
 use Rattle.px_region.specs.Promise.{IsAlike, IsSamePromise}
 use Rattle.px_region.specs.Region.{read_of}
 use Rattle.px_looks.specs.inner.Parts.{FoundTo}
@@ -14,5 +15,5 @@ invariant-loop-round g l = record {
   promised : IsSamePromise l.fn.region l.region;
   counted : min (l.fn.region.looked + length l.found.items) 18446744073709551615 ≤ l.region.looked;
   risen : l.fn.region.looked ≤ l.region.looked;
-  untouched : l.disk ≡ l.fn.disk;
+  only_read : HasOnlyRead g.D.Disk l.fn.disk l.disk;
 }

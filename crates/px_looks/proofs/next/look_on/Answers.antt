@@ -2,6 +2,7 @@ use Rattle.std.proofs.Common.{◌≡◌, ◌-◌, ◌∙◌, ◌≤◌, ◌+◌,
 use Rattle.std.specs.Option.{option_copied}
 use Rattle.px_cells.specs.Contents.{value_at}
 use Rattle.px_region.specs.Region.{read_of}
+use Rattle.px_region.specs.declared.fault.LookFault.{LookFault as Fault}
 use Rattle.px_calls.specs.Looks.{key_found}
 use Rattle.px_calls.specs.declared.query.FoundKey.{FoundKey}
 use Rattle.px_looks.specs.Found.{AreNext}
@@ -44,3 +45,9 @@ returns-in-None-clause-counted g c = λ way start r before. counts start c.args.
 
 pub returns-clause-counted : goal.returns-clause-counted
 returns-clause-counted g c = λ way start r before. counts start c.args.region.now.looked _ c.args.found.now.items c.in_ok-more.field-0.found.items c.append.new.self.items before c.in_ok-more.ensures.counted c.in-Ok.ensures.items
+
+pub returns-clause-undamaged : goal.returns-clause-undamaged
+returns-clause-undamaged g c = λ file at e. absurd (let z : Fault.Damaged file at ≡ Fault.Memory = c.way_from.ensures.memory (Fault.Damaged file at) e in cc)
+
+pub returns-clause-failed : goal.returns-clause-failed
+returns-clause-failed g c = λ e. absurd (let z : Fault.ReadFault ≡ Fault.Memory = c.way_from.ensures.memory Fault.ReadFault e in cc)

@@ -1,9 +1,12 @@
 use Rattle.std.proofs.Common.{◌≡◌, length, arith}
 use Rattle.px_cellbytes.specs.Spelling.{all_bytes}
 use Rattle.px_keptcells.specs.Kept.{laid}
-use Rattle.px_repairs.proofs.Handing.{min_whole, writes_taken, written_taken}
+use Rattle.px_repairs.proofs.Handing.{min_whole, not_taken, writes_taken, written_taken}
 use Rattle.px_repairs.proofs.Refusing.{refused_for}
 use Rattle.px_repairs.proofs.repairing.write.Goals as goal
+
+pub returns-in-Err-clause-written : goal.returns-in-Err-clause-written
+returns-in-Err-clause-written g c = not_taken g.D.Disk c.args.region.now c.take.new.region c.args.disk.now (laid c.args.kept) c.take.result c.in-Err.fault c.in-Err.is c.in-Err.ensures.quiet (record { alike = c.take.ensures.alike; promised = c.in-Err.ensures.refused })
 
 pub returns-in-Err-clause-cause : goal.returns-in-Err-clause-cause
 returns-in-Err-clause-cause g c fault e = refused_for c.args.region.now (laid c.args.kept) c.count-count.result c.bytes-bytes.result c.count-count.ensures c.bytes-bytes.ensures fault (c.in-Err.ensures.cause fault e)
