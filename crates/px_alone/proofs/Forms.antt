@@ -252,7 +252,7 @@ module _ (sound : Type 0) (is_sound : sound) (b : Base) (pre more : List Entry) 
       says : (r : Refusal) → a.reply ≡ reply.Refused r → comes.TellsRefusal (outcome_of own a) r st
       says r e = tells-of own a (reply.Refused r) st none e still
 
-      below : (q : Select) (f : Found) (o : Option ℕ) (h : ℕ) (y : Rattle.px_gather.specs.Query.Query) → y.table ≡ f.table.id.0 → st.scn ≡ o → QueryFaultIs y o (unread.BelowHorizon h) k → right.IsReadItem p (Ok (s.Select q)) → HasTable x f q.table → select_faults f.table.columns q ≡ [] → a.reply ≡ reply.Refused (refusal.BelowHorizon h) → Folds st p own a
+      below : (q : Select) (f : Found) (o : Option ℕ) (h : ℕ) (y : Rattle.px_gather.specs.Query.Query) → y.table ≡ f.table.id.0 → st.scn ≡ o → QueryFaultIs sound y o (unread.BelowHorizon h) k → right.IsReadItem p (Ok (s.Select q)) → HasTable x f q.table → select_faults f.table.columns q ≡ [] → a.reply ≡ reply.Refused (refusal.BelowHorizon h) → Folds st p own a
       below q f None h y e scn is read finds fits told = absurd is
       below q f (Some n) h y e scn is read finds fits told =
           let at : horizon_of b f.table.id.0 (pre ++ more) ≡ h = ap (λ (t : ℕ). horizon_of b t (pre ++ more)) (sym e) ∙ is.1 in
@@ -262,7 +262,7 @@ module _ (sound : Type 0) (is_sound : sound) (b : Base) (pre more : List Entry) 
                 (says (refusal.BelowHorizon (horizon_of b f.table.id.0 (pre ++ more))) (told ∙ ap (λ (m : ℕ). reply.Refused (refusal.BelowHorizon m)) (sym at))),
           )
 
-      not_selected : (q : Select) (f : Found) (y : Rattle.px_gather.specs.Query.Query) (why : QueryFault) → y.table ≡ f.table.id.0 → QueryFaultIs y st.scn why k → right.IsReadItem p (Ok (s.Select q)) → HasTable x f q.table → select_faults f.table.columns q ≡ [] → a.reply ≡ reply.Refused (right.query_refusal q.table why) → Folds st p own a
+      not_selected : (q : Select) (f : Found) (y : Rattle.px_gather.specs.Query.Query) (why : QueryFault) → y.table ≡ f.table.id.0 → QueryFaultIs sound y st.scn why k → right.IsReadItem p (Ok (s.Select q)) → HasTable x f q.table → select_faults f.table.columns q ≡ [] → a.reply ≡ reply.Refused (right.query_refusal q.table why) → Folds st p own a
       not_selected q f y unread.NoTable e is read finds fits told = stands_then f q.table none finds (subst (LacksTable k) e is)
       not_selected q f y (unread.BelowHorizon h) e is read finds fits told = below q f st.scn h y e refl is read finds fits told
       not_selected q f y unread.IndexJoin e is read finds fits told = absurd (quiet-by a.reply _ told own_cause)
@@ -357,7 +357,7 @@ module _ (sound : Type 0) (is_sound : sound) (b : Base) (pre more : List Entry) 
     counts_then t [] h = tt
     counts_then t (c ∷ cs) h = (count_then t c h.0, counts_then t cs h.1)
 
-    counted : (st : Settings) (p : SeenPiece) (a : Answered) (name : List ℕ) (r : Status) → own ≡ [] → right.IsCommandRead p (Ok (commands.Status name)) → length pre ≤ a.first → counts.IsCountOutcome a.first name k (Ok r) → right.SaysOnly a (reply.Status r) st → Folds st p own a
+    counted : (st : Settings) (p : SeenPiece) (a : Answered) (name : List ℕ) (r : Status) → own ≡ [] → right.IsCommandRead p (Ok (commands.Status name)) → length pre ≤ a.first → counts.IsCountOutcome sound a.first name k (Ok r) → right.SaysOnly a (reply.Status r) st → Folds st p own a
     counted st p a name r e read from outcome told =
         let w = outcome.1 in
         let z = outcome.2 in
@@ -370,7 +370,7 @@ module _ (sound : Type 0) (is_sound : sound) (b : Base) (pre more : List Entry) 
               (tells-of own a (reply.Status r) st none told.0 told.3),
         )
 
-    not_counted : (st : Settings) (p : SeenPiece) (a : Answered) (name : List ℕ) (why : CountFault) → Quiet a.reply → own ≡ [] → right.IsCommandRead p (Ok (commands.Status name)) → length pre ≤ a.first → counts.CountFaultIs a.first name why k
+    not_counted : (st : Settings) (p : SeenPiece) (a : Answered) (name : List ℕ) (why : CountFault) → Quiet a.reply → own ≡ [] → right.IsCommandRead p (Ok (commands.Status name)) → length pre ≤ a.first → counts.CountFaultIs sound a.first name why k
         → right.SaysRefused a (right.count_refusal name why) st ⊎ right.SaysRefused a refusal.Memory st → Folds st p own a
     not_counted st p a name why q e read from is (inr lack) = no-memory (quiet-by a.reply _ lack.0 q)
     not_counted st p a name uncounted.NoTable q e read from (inl lacks) (inl told) =
@@ -452,7 +452,7 @@ module _ (sound : Type 0) (is_sound : sound) (b : Base) (pre more : List Entry) 
     of_table_limit t bound.Ids count none h = runs_out (length (new_table t).least_keys + 1) none h.1
     of_table_limit t which count none h = absurd h
 
-    not_created : (st : Settings) (p : SeenPiece) (a : Answered) (t : CreateTable) (why : DefineFault) → Quiet a.reply → right.IsReadItem p (Ok (s.CreateTable t)) → st.scn ≡ None → define.DefinitionFaultIs (d.Table (new_table t)) why k → own ≡ [] → right.SaysOnly a (right.undefined (s.CreateTable t) why) st → Folds st p own a
+    not_created : (st : Settings) (p : SeenPiece) (a : Answered) (t : CreateTable) (why : DefineFault) → Quiet a.reply → right.IsReadItem p (Ok (s.CreateTable t)) → st.scn ≡ None → define.DefinitionFaultIs sound (d.Table (new_table t)) why k → own ≡ [] → right.SaysOnly a (right.undefined (s.CreateTable t) why) st → Folds st p own a
     not_created st p a t undone.NameExists q read scn is none told = inl (comes.is_taken (s.CreateTable t) t.name read scn refl (name_then t.name none is) (tells-of own a _ st (ap changes_in none) told.0 told.3))
     not_created st p a t (undone.Limit which count) q read scn is none told = inl (comes.is_not_defined (s.CreateTable t) which read scn (of_table_limit t which count none is) (tells-of own a _ st (ap changes_in none) told.0 told.3))
     not_created st p a t undone.NoTable q read scn is none told = absurd is
@@ -515,7 +515,7 @@ module _ (sound : Type 0) (is_sound : sound) (b : Base) (pre more : List Entry) 
       limited : (which : Limit) → comes.IsOfDefinition x y which → a.reply ≡ reply.Refused (refusal.Limit which) → Folds st p own a
       limited which of told = inl (comes.is_not_defined y which read scn of (tells-of own a _ st (ap changes_in none) told still))
 
-      not_dropped : (t : DropTable) (z : Table) (why : DefineFault) → comes.Stands x z t.name → define.DefinitionFaultIs (d.DropTable z.id) why k → a.reply ≡ right.undefined (s.DropTable t) why → Folds st p own a
+      not_dropped : (t : DropTable) (z : Table) (why : DefineFault) → comes.Stands x z t.name → define.DefinitionFaultIs sound (d.DropTable z.id) why k → a.reply ≡ right.undefined (s.DropTable t) why → Folds st p own a
       not_dropped t z undone.NoTable h is told = table_lacks z t.name h is
       not_dropped t z undone.NameExists h is told = absurd is
       not_dropped t z undone.NoIndex h is told = absurd is
@@ -532,7 +532,7 @@ module _ (sound : Type 0) (is_sound : sound) (b : Base) (pre more : List Entry) 
       of_index_limit z i bound.Ids count at h = runs_out 2 none h.1
       of_index_limit z i which count at h = absurd h
 
-      not_made : (i : CreateIndex) (z : Table) (why : DefineFault) → y ≡ s.CreateIndex i → comes.Stands x z i.table → define.DefinitionFaultIs (d.Index (new_index z i)) why k → a.reply ≡ right.undefined (s.CreateIndex i) why → Folds st p own a
+      not_made : (i : CreateIndex) (z : Table) (why : DefineFault) → y ≡ s.CreateIndex i → comes.Stands x z i.table → define.DefinitionFaultIs sound (d.Index (new_index z i)) why k → a.reply ≡ right.undefined (s.CreateIndex i) why → Folds st p own a
       not_made i z undone.NameExists e h is told =
           inl (comes.is_taken (s.CreateIndex i) i.name (subst (λ (w : Statement). right.IsReadItem p (Ok w)) e read) scn refl (name_then i.name none is) (tells-of own a _ st (ap changes_in none) told still))
       not_made i z undone.NoTable e h is told = table_lacks z i.table h is
@@ -544,7 +544,7 @@ module _ (sound : Type 0) (is_sound : sound) (b : Base) (pre more : List Entry) 
       not_made i z (undone.Closed call) e h is told = no-closing (quiet-by a.reply _ told q)
       not_made i z undone.Memory e h is told = no-memory (quiet-by a.reply _ told q)
 
-      not_unmade : (i : DropIndex) (z : Table) (w : Index) (why : DefineFault) → comes.Stands x z i.table → comes.HasIndex x z w i.name → define.DefinitionFaultIs (d.DropIndex z.id w.id) why k → a.reply ≡ right.undefined (s.DropIndex i) why → Folds st p own a
+      not_unmade : (i : DropIndex) (z : Table) (w : Index) (why : DefineFault) → comes.Stands x z i.table → comes.HasIndex x z w i.name → define.DefinitionFaultIs sound (d.DropIndex z.id w.id) why k → a.reply ≡ right.undefined (s.DropIndex i) why → Folds st p own a
       not_unmade i z w undone.NoTable h j is told = table_lacks z i.table h is
       not_unmade i z w undone.NoIndex h j is told = index_lacks z w i.name j is
       not_unmade i z w undone.NameExists h j is told = absurd is
@@ -560,7 +560,7 @@ module _ (sound : Type 0) (is_sound : sound) (b : Base) (pre more : List Entry) 
       of_altered_limit z w i bound.Ids count at h = runs_out 1 none h.1
       of_altered_limit z w i which count at h = absurd h
 
-      not_altered : (i : AlterIndex) (action : IndexAction) (z : Table) (w : Index) (why : DefineFault) → y ≡ s.AlterIndex i → comes.Stands x z i.table → comes.HasIndex x z w i.name → define.DefinitionFaultIs (altered z.id action w.id) why k → a.reply ≡ right.undefined (s.AlterIndex i) why → Folds st p own a
+      not_altered : (i : AlterIndex) (action : IndexAction) (z : Table) (w : Index) (why : DefineFault) → y ≡ s.AlterIndex i → comes.Stands x z i.table → comes.HasIndex x z w i.name → define.DefinitionFaultIs sound (altered z.id action w.id) why k → a.reply ≡ right.undefined (s.AlterIndex i) why → Folds st p own a
       not_altered i Disable z w undone.NoTable e h j is told = table_lacks z i.table h is
       not_altered i Disable z w undone.NoIndex e h j is told = index_lacks z w i.name j is
       not_altered i Disable z w undone.NameExists e h j is told = absurd is
@@ -575,11 +575,11 @@ module _ (sound : Type 0) (is_sound : sound) (b : Base) (pre more : List Entry) 
       not_altered i action z w (undone.Closed call) e h j is told = no-closing (quiet-by a.reply _ told q)
       not_altered i action z w undone.Memory e h j is told = no-memory (quiet-by a.reply _ told q)
 
-      not_defined : (v : Statement) (e : Definition) (why : DefineFault) → y ≡ v → comes.AsksFor x v e → define.DefinitionFaultIs e why k → a.reply ≡ right.undefined v why → Folds st p own a
-      not_defined (s.DropTable t) e why same h is told = not_dropped t h.0 why h.1 (subst (λ (w : Definition). define.DefinitionFaultIs w why k) h.2 is) told
-      not_defined (s.CreateIndex i) e why same h is told = not_made i h.0 why same h.1 (subst (λ (w : Definition). define.DefinitionFaultIs w why k) h.3 is) told
-      not_defined (s.DropIndex i) e why same h is told = not_unmade i h.0 h.1 why h.2 h.3 (subst (λ (w : Definition). define.DefinitionFaultIs w why k) h.4 is) told
-      not_defined (s.AlterIndex i) e why same h is told = not_altered i i.action h.0 h.1 why same h.2 h.3 (subst (λ (w : Definition). define.DefinitionFaultIs w why k) h.4 is) told
+      not_defined : (v : Statement) (e : Definition) (why : DefineFault) → y ≡ v → comes.AsksFor x v e → define.DefinitionFaultIs sound e why k → a.reply ≡ right.undefined v why → Folds st p own a
+      not_defined (s.DropTable t) e why same h is told = not_dropped t h.0 why h.1 (subst (λ (w : Definition). define.DefinitionFaultIs sound w why k) h.2 is) told
+      not_defined (s.CreateIndex i) e why same h is told = not_made i h.0 why same h.1 (subst (λ (w : Definition). define.DefinitionFaultIs sound w why k) h.3 is) told
+      not_defined (s.DropIndex i) e why same h is told = not_unmade i h.0 h.1 why h.2 h.3 (subst (λ (w : Definition). define.DefinitionFaultIs sound w why k) h.4 is) told
+      not_defined (s.AlterIndex i) e why same h is told = not_altered i i.action h.0 h.1 why same h.2 h.3 (subst (λ (w : Definition). define.DefinitionFaultIs sound w why k) h.4 is) told
       not_defined v e why same h is told = absurd h
 
     -- a table that was found while none was made stood before
@@ -873,7 +873,7 @@ module _ (sound : Type 0) (is_sound : sound) (b : Base) (pre more : List Entry) 
         inl (comes.are_too_many y g.0 cs read scn off g.1 (subst (λ (t : Table). delete_faults t.columns y ≡ []) (sym g.2) fits) g.3 (subst (λ (t : Table). right.AreTooManyOf t cs st) (sym g.2) many) (tells-of own a _ st none told.0 told.3))
 
     -- a current query is refused for no other cause than that its table is gone
-    not_found : {A : Type 0} → (y : Rattle.px_gather.specs.Query.Query) (name : List ℕ) (f : Found) (why : QueryFault) (r : Reply) → Quiet r → y.table ≡ f.table.id.0 → HasTable x f name → changes_in own ≡ [] → QueryFaultIs y None why k → r ≡ reply.Refused (right.query_refusal name why) → A
+    not_found : {A : Type 0} → (y : Rattle.px_gather.specs.Query.Query) (name : List ℕ) (f : Found) (why : QueryFault) (r : Reply) → Quiet r → y.table ≡ f.table.id.0 → HasTable x f name → changes_in own ≡ [] → QueryFaultIs sound y None why k → r ≡ reply.Refused (right.query_refusal name why) → A
     not_found y name f unread.NoTable r q e finds none is told = stands_then f name none finds (subst (LacksTable k) e is)
     not_found y name f (unread.BelowHorizon h) r q e finds none is told = absurd is
     not_found y name f unread.IndexJoin r q e finds none is told = absurd (quiet-by r _ told q)

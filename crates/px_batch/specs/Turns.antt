@@ -29,7 +29,7 @@ BatchFaultIs sound table cs fault.NoTable k = LacksTable k table.0
 BatchFaultIs sound table cs (fault.Limit which count) k = TableStands k table.0 × (count ≡ most_of which) × batch_limit sound table.0 cs which k
 BatchFaultIs sound table cs fault.ReadFault k = (call : ℕ) × HasMade k (act.Missed call)
 BatchFaultIs sound table cs fault.WriteFault k = (call : ℕ) × HasMade k (act.Shut call)
-BatchFaultIs sound table cs (fault.Damaged file place) k = IsDamagedAt k file place
+BatchFaultIs sound table cs (fault.Damaged file place) k = IsDamagedAt sound k file place
 BatchFaultIs sound table cs (fault.Closed call) k = ClosedBy call k
 BatchFaultIs sound table cs fault.Memory k = Unit {0}
 

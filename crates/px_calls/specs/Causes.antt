@@ -40,9 +40,9 @@ Refuses Cause k k' f = Cause f k' × Sees k k' × IsRunning k'
 abbrev pub ClosedBy : ℕ → Known → Type 0
 ClosedBy call k = closing_call k.seen ≡ Some call
 
--- this place of the file isn't of the format
-abbrev pub IsDamagedAt : Known → ℕ → ℕ → Type 0
-IsDamagedAt k file place = k.damaged file place ≡ true
+-- a read may find that this place of the file isn't of the format, but not where what was opened is sound
+abbrev pub IsDamagedAt : Type 0 → Known → ℕ → ℕ → Type 0
+IsDamagedAt sound k file place = (k.damaged file place ≡ true) × ¬ sound
 
 -- 1. Names, tables and indexes
 
@@ -232,7 +232,7 @@ begin_cause sound t cs (Limit which count) k = TableStands k t × (count ≡ mos
 begin_cause sound t cs (Busy region cells bytes) k = TableStands k t
 begin_cause sound t cs (NotReady region) k = TableStands k t
 begin_cause sound t cs ReadFault k = TableStands k t
-begin_cause sound t cs (Damaged file place) k = TableStands k t × IsDamagedAt k file place
+begin_cause sound t cs (Damaged file place) k = TableStands k t × IsDamagedAt sound k file place
 begin_cause sound t cs (Closed call) k = ClosedBy call k
 begin_cause sound t cs Memory k = Unit {0}
 begin_cause sound t cs f k = ⊥
@@ -283,22 +283,22 @@ open_cause t scn Memory k = Unit {0}
 open_cause t scn f k = ⊥
 
 -- of look and consult
-abbrev pub read_cause : StepFault → Known → Type 0
-read_cause ReadFault k = Unit {0}
-read_cause (Damaged file place) k = IsDamagedAt k file place
-read_cause (Closed call) k = ClosedBy call k
-read_cause Memory k = Unit {0}
-read_cause f k = ⊥
+abbrev pub read_cause : Type 0 → StepFault → Known → Type 0
+read_cause sound ReadFault k = Unit {0}
+read_cause sound (Damaged file place) k = IsDamagedAt sound k file place
+read_cause sound (Closed call) k = ClosedBy call k
+read_cause sound Memory k = Unit {0}
+read_cause sound f k = ⊥
 
-abbrev pub fix_cause : StepFault → Known → Type 0
-fix_cause (Busy region cells bytes) k = Unit {0}
-fix_cause (NotReady region) k = Unit {0}
-fix_cause ReadFault k = Unit {0}
-fix_cause WriteFault k = Unit {0}
-fix_cause (Damaged file place) k = IsDamagedAt k file place
-fix_cause (Closed call) k = ClosedBy call k
-fix_cause Memory k = Unit {0}
-fix_cause f k = ⊥
+abbrev pub fix_cause : Type 0 → StepFault → Known → Type 0
+fix_cause sound (Busy region cells bytes) k = Unit {0}
+fix_cause sound (NotReady region) k = Unit {0}
+fix_cause sound ReadFault k = Unit {0}
+fix_cause sound WriteFault k = Unit {0}
+fix_cause sound (Damaged file place) k = IsDamagedAt sound k file place
+fix_cause sound (Closed call) k = ClosedBy call k
+fix_cause sound Memory k = Unit {0}
+fix_cause sound f k = ⊥
 
 abbrev pub base_cause : StepFault → Known → Type 0
 base_cause (Busy region cells bytes) k = Unit {0}
@@ -308,22 +308,22 @@ base_cause (Closed call) k = ClosedBy call k
 base_cause Memory k = Unit {0}
 base_cause f k = ⊥
 
-abbrev pub upkeep_cause : StepFault → Known → Type 0
-upkeep_cause ReadFault k = Unit {0}
-upkeep_cause WriteFault k = Unit {0}
-upkeep_cause (Damaged file place) k = IsDamagedAt k file place
-upkeep_cause (Closed call) k = ClosedBy call k
-upkeep_cause Memory k = Unit {0}
-upkeep_cause f k = ⊥
+abbrev pub upkeep_cause : Type 0 → StepFault → Known → Type 0
+upkeep_cause sound ReadFault k = Unit {0}
+upkeep_cause sound WriteFault k = Unit {0}
+upkeep_cause sound (Damaged file place) k = IsDamagedAt sound k file place
+upkeep_cause sound (Closed call) k = ClosedBy call k
+upkeep_cause sound Memory k = Unit {0}
+upkeep_cause sound f k = ⊥
 
 abbrev pub order_cause : StepFault → Known → Type 0
 order_cause (Closed call) k = ClosedBy call k
 order_cause f k = ⊥
 
-abbrev pub status_cause : ℕ → StepFault → Known → Type 0
-status_cause t NoTable k = LacksTable k t
-status_cause t ReadFault k = TableStands k t
-status_cause t (Damaged file place) k = TableStands k t × IsDamagedAt k file place
-status_cause t (Closed call) k = ClosedBy call k
-status_cause t Memory k = Unit {0}
-status_cause t f k = ⊥
+abbrev pub status_cause : Type 0 → ℕ → StepFault → Known → Type 0
+status_cause sound t NoTable k = LacksTable k t
+status_cause sound t ReadFault k = TableStands k t
+status_cause sound t (Damaged file place) k = TableStands k t × IsDamagedAt sound k file place
+status_cause sound t (Closed call) k = ClosedBy call k
+status_cause sound t Memory k = Unit {0}
+status_cause sound t f k = ⊥

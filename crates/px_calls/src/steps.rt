@@ -133,8 +133,8 @@ pub trait Steps {
         ensures ok { IfOk result (DidLook sound (known self.old) (known self.new) p.now path.now after.now) }
         ensures unlooked { (known self.old).alone ≡ true → (i : IndexNumber) → path.now.by ≡ ByIndex i → looked self.new ≡ looked self.old }
         ensures looked_each { IfOk result (λ c. (known self.old).alone ≡ true → path.now.by ≡ ByTable → HasRisenBy (length c.found) (looked self.old) (looked self.new)) }
-        ensures doubts { IfOk result (λ c. (known self.old).alone ≡ true → AreDoubtful (doubtful self.new) p.now c.found) }
-        ensures refused { IfErr result (Refuses read_cause (known self.old) (known self.new)) };
+        ensures doubts { IfOk result (λ c. (known self.old).alone ≡ true → sound → AreDoubtful (doubtful self.new) p.now c.found) }
+        ensures refused { IfErr result (Refuses (read_cause sound) (known self.old) (known self.new)) };
 
     /// The row of a doubt at the point, where its key is the doubt's. Leaves a verdict in the doubt.
     fn consult(&mut self, p: &Point, d: &mut Doubt) -> Result<Option<Held>, StepFault>
@@ -145,7 +145,7 @@ pub trait Steps {
         ensures same { IfErr result (λ f. d.new ≡ d.old) }
         ensures looked_once { (known self.old).alone ≡ true → looked self.new ≤ looked self.old + 1 }
         ensures still { (known self.old).alone ≡ true → AreStillDoubtful (known self.old) (doubtful self.old) (doubtful self.new) }
-        ensures refused { IfErr result (Refuses read_cause (known self.old) (known self.new)) };
+        ensures refused { IfErr result (Refuses (read_cause sound) (known self.old) (known self.new)) };
 
     /// Repairs the index row of a doubt, by a verdict of its own. It may come after the point is closed. Where the version is still in doubt at an open
     /// point, it isn't gone.
@@ -157,7 +157,7 @@ pub trait Steps {
         ensures there { IfOk result (λ fixing. (known self.old).alone ≡ true → sound → (p : Points) → HasOpen (known self.old) p → doubtful self.old p (version_of d.now) ≡ true → fixing ≢ Fixing.Gone) }
         ensures others { IfOk result (λ _. (known self.old).alone ≡ true → sound → AreOthersDoubtful (known self.old) d.now.key (doubtful self.old) (doubtful self.new)) }
         ensures still { IfErr result (λ f. (known self.old).alone ≡ true → IsForRoom f → AreStillDoubtful (known self.old) (doubtful self.old) (doubtful self.new)) }
-        ensures refused { IfErr result (Refuses fix_cause (known self.old) (known self.new)) };
+        ensures refused { IfErr result (Refuses (fix_cause sound) (known self.old) (known self.new)) };
 
     /// Gives rows of the point their base versions in an index that was born there: verified ones, at its birth.
     fn base(&mut self, p: &Point, index: IndexId, rows: &BaseRows) -> Result<u64, StepFault>
@@ -189,15 +189,15 @@ pub trait Steps {
         ensures one_call { one_call self.old self.new }
         ensures ok { IfOk result (DidWork (known self.old) (known self.new)) }
         ensures unlooked { (known self.old).alone ≡ true → looked self.new ≡ looked self.old }
-        ensures still { IfOk result (λ _. (known self.old).alone ≡ true → AreStillDoubtful (known self.old) (doubtful self.old) (doubtful self.new)) }
+        ensures still { IfOk result (λ _. (known self.old).alone ≡ true → sound → AreStillDoubtful (known self.old) (doubtful self.old) (doubtful self.new)) }
         ensures done { IfOk result (λ work. IsIdleWork work → (job : Orders) → done self.new job) }
-        ensures refused { IfErr result (Refuses upkeep_cause (known self.old) (known self.new)) };
+        ensures refused { IfErr result (Refuses (upkeep_cause sound) (known self.old) (known self.new)) };
 
     /// The table's last stamp and horizon, and counts of its cells, files and index rows.
     fn status(&mut self, table: TableId) -> Result<Status, StepFault>
         ensures one_call { one_call self.old self.new }
         ensures ok { IfOk result (DidCount (known self.old) (known self.new) table) }
-        ensures refused { IfErr result (Refuses (status_cause table.0) (known self.old) (known self.new)) };
+        ensures refused { IfErr result (Refuses (status_cause sound table.0) (known self.old) (known self.new)) };
 
     /// The number of entries that the seat has seen. It is no step.
     fn seen(&self) -> u64

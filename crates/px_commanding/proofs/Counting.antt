@@ -53,8 +53,8 @@ module _ (n : ℕ) (name : List ℕ) where
 
   -- 2. The table is found, or isn't
 
-  pub found-one : (k k' : Known) (f : Found) → n ≤ length k.seen → DidFind k k' name f → CountTurns n name run.Finding k k' (turn.Stepped (run.Counting f.table.id))
-  found-one k k' f low did =
+  pub found-one : (sound : Type 0) (k k' : Known) (f : Found) → n ≤ length k.seen → DidFind k k' name f → CountTurns sound n name run.Finding k k' (turn.Stepped (run.Counting f.table.id))
+  found-one sound k k' f low did =
       let ran = ran-sees k k' did.finds.sees in
       record {
         acts = [];
@@ -64,29 +64,29 @@ module _ (n : ℕ) (name : List ℕ) where
         since = λ m u. tt;
       }
 
-  quietly : (k k' : Known) (old : CountRun) (e : CountFault) → CountFaultIs n name e k' → ((m : ℕ) → CountFaultSince m e k') → Sees k k' → CountTurns n name old k k' (turn.Over (Err e))
-  quietly k k' old e is since sees = record { acts = []; ran = ran-sees k k' sees; quiet = refl; told = is; since = λ m u. since m }
+  quietly : (sound : Type 0) (k k' : Known) (old : CountRun) (e : CountFault) → CountFaultIs sound n name e k' → ((m : ℕ) → CountFaultSince m e k') → Sees k k' → CountTurns sound n name old k k' (turn.Over (Err e))
+  quietly sound k k' old e is since sees = record { acts = []; ran = ran-sees k k' sees; quiet = refl; told = is; since = λ m u. since m }
 
-  pub found-none : (k k' : Known) (f : StepFault) → Refuses (find_cause name) k k' f → CountTurns n name run.Finding k k' (turn.Over (Err (unfound f)))
-  found-none k k' step.NoTable r = quietly k k' run.Finding fault.NoTable (inl r.0) (λ m. tt) r.1
-  found-none k k' (step.Closed call) r = quietly k k' run.Finding (fault.Closed call) r.0 (λ m. tt) r.1
-  found-none k k' step.Memory r = quietly k k' run.Finding fault.Memory tt (λ m. tt) r.1
-  found-none k k' step.ReadFault r = absurd r.0
-  found-none k k' step.WriteFault r = absurd r.0
-  found-none k k' step.NameExists r = absurd r.0
-  found-none k k' step.NoIndex r = absurd r.0
-  found-none k k' (step.Limit which count) r = absurd r.0
-  found-none k k' (step.Busy region cells bytes) r = absurd r.0
-  found-none k k' (step.NotReady region) r = absurd r.0
-  found-none k k' (step.InUse count) r = absurd r.0
-  found-none k k' (step.NotYet stamp) r = absurd r.0
-  found-none k k' (step.BelowHorizon horizon) r = absurd r.0
-  found-none k k' (step.Damaged file place) r = absurd r.0
+  pub found-none : (sound : Type 0) (k k' : Known) (f : StepFault) → Refuses (find_cause name) k k' f → CountTurns sound n name run.Finding k k' (turn.Over (Err (unfound f)))
+  found-none sound k k' step.NoTable r = quietly sound k k' run.Finding fault.NoTable (inl r.0) (λ m. tt) r.1
+  found-none sound k k' (step.Closed call) r = quietly sound k k' run.Finding (fault.Closed call) r.0 (λ m. tt) r.1
+  found-none sound k k' step.Memory r = quietly sound k k' run.Finding fault.Memory tt (λ m. tt) r.1
+  found-none sound k k' step.ReadFault r = absurd r.0
+  found-none sound k k' step.WriteFault r = absurd r.0
+  found-none sound k k' step.NameExists r = absurd r.0
+  found-none sound k k' step.NoIndex r = absurd r.0
+  found-none sound k k' (step.Limit which count) r = absurd r.0
+  found-none sound k k' (step.Busy region cells bytes) r = absurd r.0
+  found-none sound k k' (step.NotReady region) r = absurd r.0
+  found-none sound k k' (step.InUse count) r = absurd r.0
+  found-none sound k k' (step.NotYet stamp) r = absurd r.0
+  found-none sound k k' (step.BelowHorizon horizon) r = absurd r.0
+  found-none sound k k' (step.Damaged file place) r = absurd r.0
 
   -- 3. It is counted, or isn't
 
-  pub counted : (t : TableId) (k k' : Known) (s : Status) → WasTableFound n name t k → DidCount k k' t s → CountTurns n name (run.Counting t) k k' (turn.Over (Ok s))
-  counted t k k' s w did =
+  pub counted : (sound : Type 0) (t : TableId) (k k' : Known) (s : Status) → WasTableFound n name t k → DidCount k k' t s → CountTurns sound n name (run.Counting t) k k' (turn.Over (Ok s))
+  counted sound t k k' s w did =
       let ran = ran-sees k k' did.finds.sees in
       record {
         acts = [];
@@ -96,23 +96,23 @@ module _ (n : ℕ) (name : List ℕ) where
         since = λ m u. tt;
       }
 
-  pub not-counted : (t : TableId) (k k' : Known) (f : StepFault) → WasTableFound n name t k → Refuses (status_cause t.0) k k' f → CountTurns n name (run.Counting t) k k' (turn.Over (Err (uncounted f)))
-  not-counted t k k' step.NoTable w r =
+  pub not-counted : (sound : Type 0) (t : TableId) (k k' : Known) (f : StepFault) → WasTableFound n name t k → Refuses (status_cause sound t.0) k k' f → CountTurns sound n name (run.Counting t) k k' (turn.Over (Err (uncounted f)))
+  not-counted sound t k k' step.NoTable w r =
       let ran = ran-sees k k' r.1 in
-      quietly k k' (run.Counting t) fault.NoTable (inr (t, found-later t k k' ran.added ran.seen ran.base w, r.0)) (λ m. tt) r.1
-  not-counted t k k' step.ReadFault w r =
+      quietly sound k k' (run.Counting t) fault.NoTable (inr (t, found-later t k k' ran.added ran.seen ran.base w, r.0)) (λ m. tt) r.1
+  not-counted sound t k k' step.ReadFault w r =
       let call = r.1.0 in
       let adds = r.1.1 in
       record { acts = act.Missed call ∷ []; ran = ran-adds k k' (act.Missed call) adds; quiet = refl; told = (call, made k k' (act.Missed call) adds); since = λ m u. (call, made_since k k' (act.Missed call) m adds u) }
-  not-counted t k k' (step.Damaged file place) w r = quietly k k' (run.Counting t) (fault.Damaged file place) r.0.1 (λ m. tt) r.1
-  not-counted t k k' (step.Closed call) w r = quietly k k' (run.Counting t) (fault.Closed call) r.0 (λ m. tt) r.1
-  not-counted t k k' step.Memory w r = quietly k k' (run.Counting t) fault.Memory tt (λ m. tt) r.1
-  not-counted t k k' step.WriteFault w r = absurd r.0
-  not-counted t k k' step.NameExists w r = absurd r.0
-  not-counted t k k' step.NoIndex w r = absurd r.0
-  not-counted t k k' (step.Limit which count) w r = absurd r.0
-  not-counted t k k' (step.Busy region cells bytes) w r = absurd r.0
-  not-counted t k k' (step.NotReady region) w r = absurd r.0
-  not-counted t k k' (step.InUse count) w r = absurd r.0
-  not-counted t k k' (step.NotYet stamp) w r = absurd r.0
-  not-counted t k k' (step.BelowHorizon horizon) w r = absurd r.0
+  not-counted sound t k k' (step.Damaged file place) w r = quietly sound k k' (run.Counting t) (fault.Damaged file place) r.0.1 (λ m. tt) r.1
+  not-counted sound t k k' (step.Closed call) w r = quietly sound k k' (run.Counting t) (fault.Closed call) r.0 (λ m. tt) r.1
+  not-counted sound t k k' step.Memory w r = quietly sound k k' (run.Counting t) fault.Memory tt (λ m. tt) r.1
+  not-counted sound t k k' step.WriteFault w r = absurd r.0
+  not-counted sound t k k' step.NameExists w r = absurd r.0
+  not-counted sound t k k' step.NoIndex w r = absurd r.0
+  not-counted sound t k k' (step.Limit which count) w r = absurd r.0
+  not-counted sound t k k' (step.Busy region cells bytes) w r = absurd r.0
+  not-counted sound t k k' (step.NotReady region) w r = absurd r.0
+  not-counted sound t k k' (step.InUse count) w r = absurd r.0
+  not-counted sound t k k' (step.NotYet stamp) w r = absurd r.0
+  not-counted sound t k k' (step.BelowHorizon horizon) w r = absurd r.0

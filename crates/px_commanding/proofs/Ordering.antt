@@ -43,58 +43,58 @@ made_since k k' a n h low = ran-since k k' (a ∷ []) a n low (ran-adds k k' a h
 
 -- 1. It goes on
 
-pub goes_on : (r : OrderRun) (k k' : Known) → Finds k k' → OrderTurns k k' (turn.Stepped r)
-goes_on r k k' f = record { acts = []; ran = ran-sees k k' f.sees; added = inl refl; told = tt; since = λ m low. tt }
+pub goes_on : (sound : Type 0) (r : OrderRun) (k k' : Known) → Finds k k' → OrderTurns sound k k' (turn.Stepped r)
+goes_on sound r k k' f = record { acts = []; ran = ran-sees k k' f.sees; added = inl refl; told = tt; since = λ m low. tt }
 
-raised : (r : OrderRun) (k k' : Known) (t : TableId) (h : ℕ) → Adds k k' (act.Raised t h) → OrderTurns k k' (turn.Stepped r)
-raised r k k' t h adds = record { acts = act.Raised t h ∷ []; ran = ran-adds k k' (act.Raised t h) adds; added = inr (t, h, refl); told = tt; since = λ m low. tt }
+raised : (sound : Type 0) (r : OrderRun) (k k' : Known) (t : TableId) (h : ℕ) → Adds k k' (act.Raised t h) → OrderTurns sound k k' (turn.Stepped r)
+raised sound r k k' t h adds = record { acts = act.Raised t h ∷ []; ran = ran-adds k k' (act.Raised t h) adds; added = inr (t, h, refl); told = tt; since = λ m low. tt }
 
-pub works_on : (r : OrderRun) (k k' : Known) → DidWork k k' done.Did → OrderTurns k k' (turn.Stepped r)
-works_on r k k' (inl f) = goes_on r k k' f
-works_on r k k' (inr (t, h, adds)) = raised r k k' t h adds
+pub works_on : (sound : Type 0) (r : OrderRun) (k k' : Known) → DidWork k k' done.Did → OrderTurns sound k k' (turn.Stepped r)
+works_on sound r k k' (inl f) = goes_on sound r k k' f
+works_on sound r k k' (inr (t, h, adds)) = raised sound r k k' t h adds
 
 -- 2. It is over
 
-pub is_done : (k k' : Known) → Finds k k' → OrderTurns k k' (turn.Over (Ok tt))
-is_done k k' f = record { acts = []; ran = ran-sees k k' f.sees; added = refl; told = f.running; since = λ m low. tt }
+pub is_done : (sound : Type 0) (k k' : Known) → Finds k k' → OrderTurns sound k k' (turn.Over (Ok tt))
+is_done sound k k' f = record { acts = []; ran = ran-sees k k' f.sees; added = refl; told = f.running; since = λ m low. tt }
 
-quietly : (k k' : Known) (e : OrderFault) → AreAdded (turn.Over (Err e)) [] → OrderFaultIs e k' → ((m : ℕ) → OrderFaultSince m e k') → Sees k k' → OrderTurns k k' (turn.Over (Err e))
-quietly k k' e none is since sees = record { acts = []; ran = ran-sees k k' sees; added = none; told = is; since = λ m low. since m }
+quietly : (sound : Type 0) (k k' : Known) (e : OrderFault) → AreAdded (turn.Over (Err e)) [] → OrderFaultIs sound e k' → ((m : ℕ) → OrderFaultSince m e k') → Sees k k' → OrderTurns sound k k' (turn.Over (Err e))
+quietly sound k k' e none is since sees = record { acts = []; ran = ran-sees k k' sees; added = none; told = is; since = λ m low. since m }
 
-pub not_ordered : (k k' : Known) (f : StepFault) → Refuses order_cause k k' f → OrderTurns k k' (turn.Over (Err (undone f)))
-not_ordered k k' (step.Closed call) r = quietly k k' (fault.Closed call) refl r.0 (λ m. tt) r.1
-not_ordered k k' step.Memory r = absurd r.0
-not_ordered k k' step.NoTable r = absurd r.0
-not_ordered k k' step.ReadFault r = absurd r.0
-not_ordered k k' step.WriteFault r = absurd r.0
-not_ordered k k' step.NameExists r = absurd r.0
-not_ordered k k' step.NoIndex r = absurd r.0
-not_ordered k k' (step.Limit which count) r = absurd r.0
-not_ordered k k' (step.Busy region cells bytes) r = absurd r.0
-not_ordered k k' (step.NotReady region) r = absurd r.0
-not_ordered k k' (step.InUse count) r = absurd r.0
-not_ordered k k' (step.NotYet stamp) r = absurd r.0
-not_ordered k k' (step.BelowHorizon horizon) r = absurd r.0
-not_ordered k k' (step.Damaged file place) r = absurd r.0
+pub not_ordered : (sound : Type 0) (k k' : Known) (f : StepFault) → Refuses order_cause k k' f → OrderTurns sound k k' (turn.Over (Err (undone f)))
+not_ordered sound k k' (step.Closed call) r = quietly sound k k' (fault.Closed call) refl r.0 (λ m. tt) r.1
+not_ordered sound k k' step.Memory r = absurd r.0
+not_ordered sound k k' step.NoTable r = absurd r.0
+not_ordered sound k k' step.ReadFault r = absurd r.0
+not_ordered sound k k' step.WriteFault r = absurd r.0
+not_ordered sound k k' step.NameExists r = absurd r.0
+not_ordered sound k k' step.NoIndex r = absurd r.0
+not_ordered sound k k' (step.Limit which count) r = absurd r.0
+not_ordered sound k k' (step.Busy region cells bytes) r = absurd r.0
+not_ordered sound k k' (step.NotReady region) r = absurd r.0
+not_ordered sound k k' (step.InUse count) r = absurd r.0
+not_ordered sound k k' (step.NotYet stamp) r = absurd r.0
+not_ordered sound k k' (step.BelowHorizon horizon) r = absurd r.0
+not_ordered sound k k' (step.Damaged file place) r = absurd r.0
 
-pub not_done : (k k' : Known) (f : StepFault) → Refuses upkeep_cause k k' f → OrderTurns k k' (turn.Over (Err (undone f)))
-not_done k k' step.ReadFault r =
+pub not_done : (sound : Type 0) (k k' : Known) (f : StepFault) → Refuses (upkeep_cause sound) k k' f → OrderTurns sound k k' (turn.Over (Err (undone f)))
+not_done sound k k' step.ReadFault r =
     let call = r.1.0 in
     let adds = r.1.1 in
     record { acts = act.Missed call ∷ []; ran = ran-adds k k' (act.Missed call) adds; added = (call, refl); told = (call, made k k' (act.Missed call) adds); since = λ m low. (call, made_since k k' (act.Missed call) m adds low) }
-not_done k k' step.WriteFault r =
+not_done sound k k' step.WriteFault r =
     let call = r.1.0 in
     let adds = r.1.1 in
     record { acts = act.Shut call ∷ []; ran = ran-adds k k' (act.Shut call) adds; added = (call, refl); told = (call, made k k' (act.Shut call) adds); since = λ m low. (call, made_since k k' (act.Shut call) m adds low) }
-not_done k k' (step.Damaged file place) r = quietly k k' (fault.Damaged file place) refl r.0 (λ m. tt) r.1
-not_done k k' (step.Closed call) r = quietly k k' (fault.Closed call) refl r.0 (λ m. tt) r.1
-not_done k k' step.Memory r = quietly k k' fault.Memory refl tt (λ m. tt) r.1
-not_done k k' step.NoTable r = absurd r.0
-not_done k k' step.NameExists r = absurd r.0
-not_done k k' step.NoIndex r = absurd r.0
-not_done k k' (step.Limit which count) r = absurd r.0
-not_done k k' (step.Busy region cells bytes) r = absurd r.0
-not_done k k' (step.NotReady region) r = absurd r.0
-not_done k k' (step.InUse count) r = absurd r.0
-not_done k k' (step.NotYet stamp) r = absurd r.0
-not_done k k' (step.BelowHorizon horizon) r = absurd r.0
+not_done sound k k' (step.Damaged file place) r = quietly sound k k' (fault.Damaged file place) refl r.0 (λ m. tt) r.1
+not_done sound k k' (step.Closed call) r = quietly sound k k' (fault.Closed call) refl r.0 (λ m. tt) r.1
+not_done sound k k' step.Memory r = quietly sound k k' fault.Memory refl tt (λ m. tt) r.1
+not_done sound k k' step.NoTable r = absurd r.0
+not_done sound k k' step.NameExists r = absurd r.0
+not_done sound k k' step.NoIndex r = absurd r.0
+not_done sound k k' (step.Limit which count) r = absurd r.0
+not_done sound k k' (step.Busy region cells bytes) r = absurd r.0
+not_done sound k k' (step.NotReady region) r = absurd r.0
+not_done sound k k' (step.InUse count) r = absurd r.0
+not_done sound k k' (step.NotYet stamp) r = absurd r.0
+not_done sound k k' (step.BelowHorizon horizon) r = absurd r.0

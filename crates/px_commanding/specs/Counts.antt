@@ -53,12 +53,12 @@ pub record IsStatusOf (k : Known) (t : ℕ) (s : Status) : Type 0 where
   pub all : (x : Index) → index_of k.base k.seen x.id.0 ≡ Some x → x.table.0 ≡ t → (c : IndexCount) × IsAmong c s.indexes × (c.index ≡ x.id)
 
 -- what tells the fault, in what the seat has then seen, where the run was begun after the first n entries
-abbrev pub CountFaultIs : ℕ → List ℕ → CountFault → Known → Type 0
-CountFaultIs n name fault.NoTable k = NamesNoTable k name ⊎ ((t : TableId) × WasTableFound n name t k × LacksTable k t.0)
-CountFaultIs n name fault.ReadFault k = (call : ℕ) × HasMade k (act.Missed call)
-CountFaultIs n name (fault.Damaged file place) k = IsDamagedAt k file place
-CountFaultIs n name (fault.Closed call) k = ClosedBy call k
-CountFaultIs n name fault.Memory k = Unit {0}
+abbrev pub CountFaultIs : Type 0 → ℕ → List ℕ → CountFault → Known → Type 0
+CountFaultIs sound n name fault.NoTable k = NamesNoTable k name ⊎ ((t : TableId) × WasTableFound n name t k × LacksTable k t.0)
+CountFaultIs sound n name fault.ReadFault k = (call : ℕ) × HasMade k (act.Missed call)
+CountFaultIs sound n name (fault.Damaged file place) k = IsDamagedAt sound k file place
+CountFaultIs sound n name (fault.Closed call) k = ClosedBy call k
+CountFaultIs sound n name fault.Memory k = Unit {0}
 
 -- the entry that tells a failed device call is one of the seat's own after the first m
 abbrev pub CountFaultSince : ℕ → CountFault → Known → Type 0
@@ -71,13 +71,13 @@ FitsCount n name run.Finding k = n ≤ length k.seen
 FitsCount n name (run.Counting t) k = WasTableFound n name t k
 
 -- what a status comes to: what is told of the table that was found, or why nothing is
-abbrev pub IsCountOutcome : ℕ → List ℕ → Known → Result Status CountFault → Type 0
-IsCountOutcome n name k (Ok s) = (t : TableId) × WasTableFound n name t k × IsStatusOf k t.0 s
-IsCountOutcome n name k (Err f) = CountFaultIs n name f k
+abbrev pub IsCountOutcome : Type 0 → ℕ → List ℕ → Known → Result Status CountFault → Type 0
+IsCountOutcome sound n name k (Ok s) = (t : TableId) × WasTableFound n name t k × IsStatusOf k t.0 s
+IsCountOutcome sound n name k (Err f) = CountFaultIs sound n name f k
 
-abbrev pub Told : ℕ → List ℕ → Known → CountTurn → Type 0
-Told n name k (turn.Stepped r) = FitsCount n name r k
-Told n name k (turn.Over r) = IsCountOutcome n name k r
+abbrev pub Told : Type 0 → ℕ → List ℕ → Known → CountTurn → Type 0
+Told sound n name k (turn.Stepped r) = FitsCount n name r k
+Told sound n name k (turn.Over r) = IsCountOutcome sound n name k r
 
 abbrev pub IsCountSinceThen : ℕ → Known → CountTurn → Type 0
 IsCountSinceThen m k (turn.Stepped r) = Unit {0}
@@ -85,9 +85,9 @@ IsCountSinceThen m k (turn.Over (Ok s)) = Unit {0}
 IsCountSinceThen m k (turn.Over (Err f)) = CountFaultSince m f k
 
 -- one step of a status, for which nothing is begun, opened or defined
-pub record CountTurns (n : ℕ) (name : List ℕ) (old : CountRun) (k k' : Known) (t : CountTurn) : Type 0 where
+pub record CountTurns (sound : Type 0) (n : ℕ) (name : List ℕ) (old : CountRun) (k k' : Known) (t : CountTurn) : Type 0 where
   pub acts : List Act
   pub ran : Ran k k' acts
   pub quiet : outline acts ≡ []
-  pub told : Told n name k' t
+  pub told : Told sound n name k' t
   pub since : (m : ℕ) → m ≤ length k.seen → IsCountSinceThen m k' t

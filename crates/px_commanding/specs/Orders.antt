@@ -27,12 +27,12 @@ undone (step.Closed call) = fault.Closed call
 undone f = fault.Memory
 
 -- what tells the fault, in what the seat has then seen
-abbrev pub OrderFaultIs : OrderFault → Known → Type 0
-OrderFaultIs fault.ReadFault k = (call : ℕ) × HasMade k (act.Missed call)
-OrderFaultIs fault.WriteFault k = (call : ℕ) × HasMade k (act.Shut call)
-OrderFaultIs (fault.Damaged file place) k = IsDamagedAt k file place
-OrderFaultIs (fault.Closed call) k = ClosedBy call k
-OrderFaultIs fault.Memory k = Unit {0}
+abbrev pub OrderFaultIs : Type 0 → OrderFault → Known → Type 0
+OrderFaultIs sound fault.ReadFault k = (call : ℕ) × HasMade k (act.Missed call)
+OrderFaultIs sound fault.WriteFault k = (call : ℕ) × HasMade k (act.Shut call)
+OrderFaultIs sound (fault.Damaged file place) k = IsDamagedAt sound k file place
+OrderFaultIs sound (fault.Closed call) k = ClosedBy call k
+OrderFaultIs sound fault.Memory k = Unit {0}
 
 -- the entry that tells a failed device call is one of the seat's own after the first m
 abbrev pub OrderFaultSince : ℕ → OrderFault → Known → Type 0
@@ -63,13 +63,13 @@ AreAdded (turn.Over (Err fault.WriteFault)) acts = (call : ℕ) × (acts ≡ act
 AreAdded (turn.Over r) acts = acts ≡ []
 
 -- what an order comes to: it is done while the server isn't closed, or why not
-abbrev pub IsOrderOutcome : Known → Result (Unit {0}) OrderFault → Type 0
-IsOrderOutcome k (Ok u) = IsRunning k
-IsOrderOutcome k (Err f) = OrderFaultIs f k
+abbrev pub IsOrderOutcome : Type 0 → Known → Result (Unit {0}) OrderFault → Type 0
+IsOrderOutcome sound k (Ok u) = IsRunning k
+IsOrderOutcome sound k (Err f) = OrderFaultIs sound f k
 
-abbrev pub Told : Known → OrderTurn → Type 0
-Told k (turn.Stepped r) = Unit {0}
-Told k (turn.Over r) = IsOrderOutcome k r
+abbrev pub Told : Type 0 → Known → OrderTurn → Type 0
+Told sound k (turn.Stepped r) = Unit {0}
+Told sound k (turn.Over r) = IsOrderOutcome sound k r
 
 abbrev pub IsOrderSinceThen : ℕ → Known → OrderTurn → Type 0
 IsOrderSinceThen m k (turn.Stepped r) = Unit {0}
@@ -77,9 +77,9 @@ IsOrderSinceThen m k (turn.Over (Ok u)) = Unit {0}
 IsOrderSinceThen m k (turn.Over (Err f)) = OrderFaultSince m f k
 
 -- one step of an order, for which nothing is begun, opened or defined
-pub record OrderTurns (k k' : Known) (t : OrderTurn) : Type 0 where
+pub record OrderTurns (sound : Type 0) (k k' : Known) (t : OrderTurn) : Type 0 where
   pub acts : List Act
   pub ran : Ran k k' acts
   pub added : AreAdded t acts
-  pub told : Told k' t
+  pub told : Told sound k' t
   pub since : (m : ℕ) → m ≤ length k.seen → IsOrderSinceThen m k' t

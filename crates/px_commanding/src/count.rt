@@ -57,7 +57,7 @@ fn uncounted(fault: StepFault) -> CountFault
 
 /// Finds the table.
 fn find<S: Steps>(s: &mut S, name: &Name) -> CountTurn
-    ensures turns { (n : ℕ) → FitsCount n name.now CountRun.Finding (S.known s.old) → CountTurns n name.now CountRun.Finding (S.known s.old) (S.known s.new) result }
+    ensures turns { (n : ℕ) → FitsCount n name.now CountRun.Finding (S.known s.old) → CountTurns S.sound n name.now CountRun.Finding (S.known s.old) (S.known s.new) result }
     ensures one_call { S.one_call s.old s.new }
 {
     match s.find(name) {
@@ -72,7 +72,7 @@ fn find<S: Steps>(s: &mut S, name: &Name) -> CountTurn
 
 /// Counts.
 fn count<S: Steps>(s: &mut S, name: &Name, table: TableId) -> CountTurn
-    ensures turns { (n : ℕ) → FitsCount n name.now (CountRun.Counting table) (S.known s.old) → CountTurns n name.now (CountRun.Counting table) (S.known s.old) (S.known s.new) result }
+    ensures turns { (n : ℕ) → FitsCount n name.now (CountRun.Counting table) (S.known s.old) → CountTurns S.sound n name.now (CountRun.Counting table) (S.known s.old) (S.known s.new) result }
     ensures one_call { S.one_call s.old s.new }
 {
     match s.status(table) {
@@ -91,7 +91,7 @@ impl CountRun {
 
     /// Makes one call, for the table of this name.
     pub fn step<S: Steps>(self, s: &mut S, name: &Name) -> CountTurn
-        ensures turns { (n : ℕ) → FitsCount n name.now self (S.known s.old) → CountTurns n name.now self (S.known s.old) (S.known s.new) result }
+        ensures turns { (n : ℕ) → FitsCount n name.now self (S.known s.old) → CountTurns S.sound n name.now self (S.known s.old) (S.known s.new) result }
         ensures one_call { S.one_call s.old s.new }
     {
         match self {

@@ -46,7 +46,7 @@ fn undone(fault: StepFault) -> OrderFault
 
 /// Gives the order.
 fn order<S: Steps>(s: &mut S, job: Ordered) -> OrderTurn
-    ensures turns { OrderTurns (S.known s.old) (S.known s.new) result }
+    ensures turns { OrderTurns S.sound (S.known s.old) (S.known s.new) result }
     ensures leads { OrderLeads (S.ordered s.new) (S.done s.new) (OrderRun.Ordering job) result }
     ensures one_call { S.one_call s.old s.new }
 {
@@ -58,7 +58,7 @@ fn order<S: Steps>(s: &mut S, job: Ordered) -> OrderTurn
 
 /// Makes a step of upkeep.
 fn work<S: Steps>(s: &mut S, job: Ordered) -> OrderTurn
-    ensures turns { OrderTurns (S.known s.old) (S.known s.new) result }
+    ensures turns { OrderTurns S.sound (S.known s.old) (S.known s.new) result }
     ensures leads { OrderLeads (S.ordered s.new) (S.done s.new) (OrderRun.Working job) result }
     ensures one_call { S.one_call s.old s.new }
 {
@@ -88,7 +88,7 @@ impl OrderRun {
 
     /// Makes one call. It is over where upkeep was idle behind the order, or where a call was refused.
     pub fn step<S: Steps>(self, s: &mut S) -> OrderTurn
-        ensures turns { OrderTurns (S.known s.old) (S.known s.new) result }
+        ensures turns { OrderTurns S.sound (S.known s.old) (S.known s.new) result }
         ensures leads { OrderLeads (S.ordered s.new) (S.done s.new) self result }
         ensures one_call { S.one_call s.old s.new }
     {

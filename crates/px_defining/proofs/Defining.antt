@@ -67,7 +67,7 @@ module _ (sound : Type 0) where
       }
 
   -- a refusal that adds nothing
-  plain : (k k' : Known) (x : Definition) (old : DefineState) (f : DefineFault) → ((n : ℕ) → DefinitionFaultSince n f k') → DefinitionFaultIs x f k' → Sees k k' → DefinitionTurns sound x old k state.Over k' (turn.Over (Err f))
+  plain : (k k' : Known) (x : Definition) (old : DefineState) (f : DefineFault) → ((n : ℕ) → DefinitionFaultSince n f k') → DefinitionFaultIs sound x f k' → Sees k k' → DefinitionTurns sound x old k state.Over k' (turn.Over (Err f))
   plain k k' x old f since told h = record { acts = []; ran = ran-sees k k' h; fits = tt; told = (refl, (told, refl)); since = λ n low. since n; adds = tt }
 
   shuts : (k k' : Known) (x : Definition) (old : DefineState) → ((call : ℕ) × Adds k k' (act.Shut call)) → DefinitionTurns sound x old k state.Over k' (turn.Over (Err fault.WriteFault))
@@ -144,7 +144,7 @@ module _ (sound : Type 0) where
   pub idles : (k k' : Known) (x : Definition) → CanDefine sound k x → Finds k k' → DefinitionTurns sound x state.Settling k state.Defining k' turn.Stepped
   idles k k' x can h = let r = ran-sees k k' h.sees in record { acts = []; ran = r; fits = passes-define sound k k' x h.sees.passes can; told = (tt, refl); since = λ n low. grown k k' _ n r low; adds = tt }
 
-  pub upkeep_refuses : (k k' : Known) (x : Definition) (f : StepFault) → Refuses upkeep_cause k k' f → DefinitionTurns sound x state.Settling k state.Over k' (turn.Over (Err (fault_of f)))
+  pub upkeep_refuses : (k k' : Known) (x : Definition) (f : StepFault) → Refuses (upkeep_cause sound) k k' f → DefinitionTurns sound x state.Settling k state.Over k' (turn.Over (Err (fault_of f)))
   upkeep_refuses k k' x step.ReadFault h = misses k k' x state.Settling h.1
   upkeep_refuses k k' x step.WriteFault h = shuts k k' x state.Settling h.1
   upkeep_refuses k k' x (step.Damaged file place) h = plain k k' x state.Settling (fault.Damaged file place) (λ n. tt) h.0 h.1

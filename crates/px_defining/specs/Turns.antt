@@ -44,16 +44,16 @@ turn_after (step.InUse count) = turn.Waiting count
 turn_after f = turn.Over (Err (fault_of f))
 
 -- what tells the fault, in what the seat has then seen
-abbrev pub DefinitionFaultIs : Definition → DefineFault → Known → Type 0
-DefinitionFaultIs x fault.NameExists k = definition_cause x step.NameExists k
-DefinitionFaultIs x fault.NoTable k = definition_cause x step.NoTable k
-DefinitionFaultIs x fault.NoIndex k = definition_cause x step.NoIndex k
-DefinitionFaultIs x (fault.Limit which count) k = definition_cause x (step.Limit which count) k
-DefinitionFaultIs x fault.ReadFault k = (call : ℕ) × HasMade k (act.Missed call)
-DefinitionFaultIs x fault.WriteFault k = (call : ℕ) × HasMade k (act.Shut call)
-DefinitionFaultIs x (fault.Damaged file place) k = IsDamagedAt k file place
-DefinitionFaultIs x (fault.Closed call) k = ClosedBy call k
-DefinitionFaultIs x fault.Memory k = Unit {0}
+abbrev pub DefinitionFaultIs : Type 0 → Definition → DefineFault → Known → Type 0
+DefinitionFaultIs sound x fault.NameExists k = definition_cause x step.NameExists k
+DefinitionFaultIs sound x fault.NoTable k = definition_cause x step.NoTable k
+DefinitionFaultIs sound x fault.NoIndex k = definition_cause x step.NoIndex k
+DefinitionFaultIs sound x (fault.Limit which count) k = definition_cause x (step.Limit which count) k
+DefinitionFaultIs sound x fault.ReadFault k = (call : ℕ) × HasMade k (act.Missed call)
+DefinitionFaultIs sound x fault.WriteFault k = (call : ℕ) × HasMade k (act.Shut call)
+DefinitionFaultIs sound x (fault.Damaged file place) k = IsDamagedAt sound k file place
+DefinitionFaultIs sound x (fault.Closed call) k = ClosedBy call k
+DefinitionFaultIs sound x fault.Memory k = Unit {0}
 
 -- the entry that tells a failed device call is one of the seat's own after the first n
 abbrev pub DefinitionFaultSince : ℕ → DefineFault → Known → Type 0
@@ -82,15 +82,15 @@ pub record HasDefined (x : Definition) (own : List Act) (k : Known) (m : Made) :
   pub at : m.at ≡ length k.seen
 
 -- what the run comes to, where `own` is what the seat began, ended, opened, closed and defined for it
-abbrev pub IsDefinitionOutcome : Definition → List Act → Known → Result Made DefineFault → Type 0
-IsDefinitionOutcome x own k (Ok m) = HasDefined x own k m
-IsDefinitionOutcome x own k (Err f) = DefinitionFaultIs x f k × (own ≡ [])
+abbrev pub IsDefinitionOutcome : Type 0 → Definition → List Act → Known → Result Made DefineFault → Type 0
+IsDefinitionOutcome sound x own k (Ok m) = HasDefined x own k m
+IsDefinitionOutcome sound x own k (Err f) = DefinitionFaultIs sound x f k × (own ≡ [])
 
 -- what a step came to
-abbrev pub Told : Definition → List Act → DefineState → Known → DefineTurn → Type 0
-Told x own new k turn.Stepped = IsDefinitionGoing new × (own ≡ [])
-Told x own new k (turn.Waiting count) = IsDefinitionGoing new × (own ≡ []) × definition_cause x (step.InUse count) k
-Told x own new k (turn.Over r) = (new ≡ state.Over) × IsDefinitionOutcome x own k r
+abbrev pub Told : Type 0 → Definition → List Act → DefineState → Known → DefineTurn → Type 0
+Told sound x own new k turn.Stepped = IsDefinitionGoing new × (own ≡ [])
+Told sound x own new k (turn.Waiting count) = IsDefinitionGoing new × (own ≡ []) × definition_cause x (step.InUse count) k
+Told sound x own new k (turn.Over r) = (new ≡ state.Over) × IsDefinitionOutcome sound x own k r
 
 abbrev pub IsDefinitionSinceThen : ℕ → Known → DefineTurn → Type 0
 IsDefinitionSinceThen n k turn.Stepped = n ≤ length k.seen
@@ -108,6 +108,6 @@ pub record DefinitionTurns (sound : Type 0) (x : Definition) (old : DefineState)
   pub acts : List Act
   pub ran : Ran k k' acts
   pub fits : FitsDefinition sound x new k'
-  pub told : Told x (outline acts) new k' t
+  pub told : Told sound x (outline acts) new k' t
   pub since : (n : ℕ) → n ≤ length k.seen → IsDefinitionSinceThen n k' t
   pub adds : AddsThen x k k' t

@@ -78,23 +78,23 @@ module _ (sound : Type 0) (before : ℕ) (asked : Asked) (mine : List Act) where
 
   -- a table is counted
 
-  pub count_goes_on : (name : List ℕ) (old new : CountRun) (k k' : Known) → FitsItem sound before asked mine (state.Counting name old) k → ((n : ℕ) → counts.FitsCount n name old k → counts.CountTurns n name old k k' (nt.Stepped new))
+  pub count_goes_on : (name : List ℕ) (old new : CountRun) (k k' : Known) → FitsItem sound before asked mine (state.Counting name old) k → ((n : ℕ) → counts.FitsCount n name old k → counts.CountTurns sound n name old k k' (nt.Stepped new))
       → ItemTurns sound before asked mine k k' (turn.Stepped (record { asked = asked; state = state.Counting name new }))
   count_goes_on name old new k k' f turns =
       let t = turns asked.first f.state.fits in
       let later = of_ran k k' t.acts t.ran in
       record { acts = t.acts; ran = t.ran; told = (refl, record { begins = f.begins; within = longer k k' asked.first later f.within; state = record { read = f.state.read; fits = t.told }; done = and_then mine [] t.acts f.done ∙ t.quiet }) }
 
-  count_told : (name : List ℕ) (k : Known) (own : List Act) (r : Result Status CountFault) (a : Answered) → right.IsCommandRead (seen_piece asked.piece) (Ok (Rattle.px_commands.specs.declared.command.Command.TheVariants.Status name)) → counts.IsCountOutcome a.first name k r → counts.IsCountSinceThen before k (nt.Over r)
+  count_told : (name : List ℕ) (k : Known) (own : List Act) (r : Result Status CountFault) (a : Answered) → right.IsCommandRead (seen_piece asked.piece) (Ok (Rattle.px_commands.specs.declared.command.Command.TheVariants.Status name)) → counts.IsCountOutcome sound a.first name k r → counts.IsCountSinceThen before k (nt.Over r)
       → IsCounted asked name r a → own ≡ [] → IsRight sound (plain k) before own asked.settings (seen_piece asked.piece) a
-  count_told name k own (Ok x) a read out since c quiet = right.is_counted name x read (counted_plain a.first name k (Ok x) out) c.1 quiet
-  count_told name k own (Err e) a read out since c quiet = right.is_not_counted name e read (counted_plain a.first name k (Err e) out) (count_since_plain before e k since) c.1 quiet
+  count_told name k own (Ok x) a read out since c quiet = right.is_counted name x read (counted_plain sound a.first name k (Ok x) out) c.1 quiet
+  count_told name k own (Err e) a read out since c quiet = right.is_not_counted name e read (counted_plain sound a.first name k (Err e) out) (count_since_plain before e k since) c.1 quiet
 
   counted_first : (name : List ℕ) (r : Result Status CountFault) (a : Answered) → IsCounted asked name r a → a.first ≡ asked.first
   counted_first name (Ok x) a c = c.0
   counted_first name (Err e) a c = c.0
 
-  pub count_is_over : (name : List ℕ) (old : CountRun) (k k' : Known) (r : Result Status CountFault) (a : Answered) → FitsItem sound before asked mine (state.Counting name old) k → ((n : ℕ) → counts.FitsCount n name old k → counts.CountTurns n name old k k' (nt.Over r))
+  pub count_is_over : (name : List ℕ) (old : CountRun) (k k' : Known) (r : Result Status CountFault) (a : Answered) → FitsItem sound before asked mine (state.Counting name old) k → ((n : ℕ) → counts.FitsCount n name old k → counts.CountTurns sound n name old k k' (nt.Over r))
       → IsCounted asked name r a → ItemTurns sound before asked mine k k' (turn.Over a)
   count_is_over name old k k' r a f turns c =
       let t = turns asked.first f.state.fits in
@@ -102,7 +102,7 @@ module _ (sound : Type 0) (before : ℕ) (asked : Asked) (mine : List Act) where
       let first = counted_first name r a c in
       let low = f.begins in
       let within = f.within in
-      let out = subst (λ (n : ℕ). counts.IsCountOutcome n name k' r) (sym first) t.told in
+      let out = subst (λ (n : ℕ). counts.IsCountOutcome sound n name k' r) (sym first) t.told in
       record {
         acts = t.acts;
         ran = t.ran;

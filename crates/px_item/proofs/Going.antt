@@ -145,12 +145,12 @@ module _ (sound : Type 0) (before : ℕ) (asked : Asked) (mine : List Act) where
       record { begins = f.begins; within = longer k k' asked.first later f.within; state = (f.state.0, define_later sound asked x old new k k' later f.state.1 definition (λ was. fits) (λ was. going)); done = and_then mine [] acts f.done ∙ quiet }
 
   not_defined : (x : Statement) (f : Found) (e : DefineFault) (y : Definition) (k : Known) (own : List Act) (a : Answered) → IsReadItem (seen_piece asked.piece) (Ok x) → asked.settings.scn ≡ None → IsBoundTo k.base k.seen a.first f (table_named x)
-      → faults_in f x ≡ [] → definition_asked f x ≡ Some y → define.DefinitionFaultIs y e k → define.DefinitionFaultSince before e k → own ≡ [] → SaysOnly a (right.undefined x e) asked.settings ⊎ right.SaysRefused a refusal.Memory asked.settings
+      → faults_in f x ≡ [] → definition_asked f x ≡ Some y → define.DefinitionFaultIs sound y e k → define.DefinitionFaultSince before e k → own ≡ [] → SaysOnly a (right.undefined x e) asked.settings ⊎ right.SaysRefused a refusal.Memory asked.settings
       → IsRight sound (plain k) before own asked.settings (seen_piece asked.piece) a
-  not_defined x f e y k own a read free bound none is told since quiet (inl says) = right.is_not_defined x f e y read free bound none is (define_plain y e k told) (define_since_plain before e k since) quiet says
+  not_defined x f e y k own a read free bound none is told since quiet (inl says) = right.is_not_defined x f e y read free bound none is (define_plain sound y e k told) (define_since_plain before e k since) quiet says
   not_defined x f e y k own a read free bound none is told since quiet (inr says) = right.is_at_once (right.is_lacking says) quiet
 
-  asked_told : (x : Statement) (old : DefineRun) (k k' : Known) (own : List Act) (r : Result Made DefineFault) (a : Answered) → Later k k' → IsAsking asked x → IsDefining sound asked x old k → define.IsDefinitionOutcome old.definition own k' r
+  asked_told : (x : Statement) (old : DefineRun) (k k' : Known) (own : List Act) (r : Result Made DefineFault) (a : Answered) → Later k k' → IsAsking asked x → IsDefining sound asked x old k → define.IsDefinitionOutcome sound old.definition own k' r
       → define.IsDefinitionSinceThen before k' (dt.Over r) → IsAlone old.definition r → IsDefined asked x r a → IsRight sound (plain k') before own asked.settings (seen_piece asked.piece) a
   asked_told x old k k' own (Ok m) a later asking j out since alone c =
       let bound = subst (λ (n : ℕ). IsBoundTo k'.base k'.seen n j.found (table_named x)) (sym c.0) (bound_later k k' asked.first j.found (table_named x) later j.bound) in
@@ -160,12 +160,12 @@ module _ (sound : Type 0) (before : ℕ) (asked : Asked) (mine : List Act) where
       not_defined x j.found e old.definition k' own a asking.read (asking.free (asks_change j.found x old.definition j.definition)) bound j.right j.definition out.0 since out.1 c.1
 
   not_created : (t : CreateTable) (e : DefineFault) (k : Known) (own : List Act) (a : Answered) → IsReadItem (seen_piece asked.piece) (Ok (s.CreateTable t)) → right.is_none_of t.splits ≡ true → asked.settings.scn ≡ None → table_faults t ≡ []
-      → define.DefinitionFaultIs (d.Table (new_table t)) e k → define.DefinitionFaultSince before e k → own ≡ [] → SaysOnly a (right.undefined (s.CreateTable t) e) asked.settings ⊎ right.SaysRefused a refusal.Memory asked.settings
+      → define.DefinitionFaultIs sound (d.Table (new_table t)) e k → define.DefinitionFaultSince before e k → own ≡ [] → SaysOnly a (right.undefined (s.CreateTable t) e) asked.settings ⊎ right.SaysRefused a refusal.Memory asked.settings
       → IsRight sound (plain k) before own asked.settings (seen_piece asked.piece) a
-  not_created t e k own a read whole free none told since quiet (inl says) = right.is_not_created t e read whole free none (define_plain (d.Table (new_table t)) e k told) (define_since_plain before e k since) quiet says
+  not_created t e k own a read whole free none told since quiet (inl says) = right.is_not_created t e read whole free none (define_plain sound (d.Table (new_table t)) e k told) (define_since_plain before e k since) quiet says
   not_created t e k own a read whole free none told since quiet (inr says) = right.is_at_once (right.is_lacking says) quiet
 
-  create_told : (x : Statement) (old : DefineRun) (k k' : Known) (own : List Act) (r : Result Made DefineFault) (a : Answered) → IsAsking asked x → IsCreating sound x old k → define.IsDefinitionOutcome old.definition own k' r
+  create_told : (x : Statement) (old : DefineRun) (k k' : Known) (own : List Act) (r : Result Made DefineFault) (a : Answered) → IsAsking asked x → IsCreating sound x old k → define.IsDefinitionOutcome sound old.definition own k' r
       → define.IsDefinitionSinceThen before k' (dt.Over r) → IsDefined asked x r a → IsRight sound (plain k') before own asked.settings (seen_piece asked.piece) a
   create_told x old k k' own (Ok m) a asking j out since c =
       let read = subst (λ (y : Statement). IsReadItem (seen_piece asked.piece) (Ok y)) j.is asking.read in
@@ -174,12 +174,12 @@ module _ (sound : Type 0) (before : ℕ) (asked : Asked) (mine : List Act) where
       right.is_created j.create m read j.whole (asking.free (ap changes j.is)) j.right (defined_plain (d.Table (new_table j.create)) own k' m made) says
   create_told x old k k' own (Err e) a asking j out since c =
       let read = subst (λ (y : Statement). IsReadItem (seen_piece asked.piece) (Ok y)) j.is asking.read in
-      let fault = subst (λ (y : Definition). define.DefinitionFaultIs y e k') j.definition out.0 in
+      let fault = subst (λ (y : Definition). define.DefinitionFaultIs sound y e k') j.definition out.0 in
       let F : Statement → Type 0 = λ y. SaysOnly a (right.undefined y e) asked.settings ⊎ right.SaysRefused a refusal.Memory asked.settings in
       not_created j.create e k' own a read j.whole (asking.free (ap changes j.is)) j.right fault since out.1 (subst F j.is c.1)
 
   define_told : (x : Statement) (old : DefineRun) (k k' : Known) (own : List Act) (r : Result Made DefineFault) (a : Answered) → Later k k' → IsAsking asked x → IsDefining sound asked x old k ⊎ IsCreating sound x old k
-      → define.IsDefinitionOutcome old.definition own k' r → define.IsDefinitionSinceThen before k' (dt.Over r) → IsAlone old.definition r → IsDefined asked x r a → IsRight sound (plain k') before own asked.settings (seen_piece asked.piece) a
+      → define.IsDefinitionOutcome sound old.definition own k' r → define.IsDefinitionSinceThen before k' (dt.Over r) → IsAlone old.definition r → IsDefined asked x r a → IsRight sound (plain k') before own asked.settings (seen_piece asked.piece) a
   define_told x old k k' own r a later asking (inl j) out since alone c = asked_told x old k k' own r a later asking j out since alone c
   define_told x old k k' own r a later asking (inr j) out since alone c = create_told x old k k' own r a asking j out since c
 

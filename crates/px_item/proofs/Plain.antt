@@ -142,16 +142,16 @@ cause_plain (d.DropIndex t i) (step.InUse count) k h = h
 cause_plain (d.DropIndex t i) (step.NotReady region) k h = h
 cause_plain (d.DropIndex t i) f k h = h
 
-pub define_plain : (x : Definition) (f : DefineFault) (k : Known) → define.DefinitionFaultIs x f k → define.DefinitionFaultIs x f (plain k)
-define_plain x undone.NameExists k h = cause_plain x step.NameExists k h
-define_plain x undone.NoTable k h = cause_plain x step.NoTable k h
-define_plain x undone.NoIndex k h = cause_plain x step.NoIndex k h
-define_plain x (undone.Limit which count) k h = cause_plain x (step.Limit which count) k h
-define_plain x undone.ReadFault k h = h
-define_plain x undone.WriteFault k h = h
-define_plain x (undone.Damaged file place) k h = h
-define_plain x (undone.Closed call) k h = h
-define_plain x undone.Memory k h = h
+pub define_plain : (sound : Type 0) (x : Definition) (f : DefineFault) (k : Known) → define.DefinitionFaultIs sound x f k → define.DefinitionFaultIs sound x f (plain k)
+define_plain sound x undone.NameExists k h = cause_plain x step.NameExists k h
+define_plain sound x undone.NoTable k h = cause_plain x step.NoTable k h
+define_plain sound x undone.NoIndex k h = cause_plain x step.NoIndex k h
+define_plain sound x (undone.Limit which count) k h = cause_plain x (step.Limit which count) k h
+define_plain sound x undone.ReadFault k h = h
+define_plain sound x undone.WriteFault k h = h
+define_plain sound x (undone.Damaged file place) k h = h
+define_plain sound x (undone.Closed call) k h = h
+define_plain sound x undone.Memory k h = h
 
 pub define_since_plain : (n : ℕ) (f : DefineFault) (k : Known) → define.DefinitionFaultSince n f k → define.DefinitionFaultSince n f (plain k)
 define_since_plain n undone.ReadFault k h = h
@@ -178,23 +178,23 @@ behind_plain n e m own rest k h = record { one = h.one; made = h.made; from = h.
 joined_plain : (q : Query) (k : Known) → IsJoined q k → IsJoined q (plain k)
 joined_plain q k j = record { found = j.found; within = j.within; is = j.is; table = j.table; stamp = j.stamp; joins = j.joins }
 
-query_plain : (q : Query) (scn : Option ℕ) (f : QueryFault) (k : Known) → QueryFaultIs q scn f k → QueryFaultIs q scn f (plain k)
-query_plain q None unread.NoTable k h = h
-query_plain q (Some n) unread.NoTable k h = h
-query_plain q None (unread.BelowHorizon b) k h = absurd h
-query_plain q (Some n) (unread.BelowHorizon b) k h = h
-query_plain q None unread.IndexJoin k h = joined_plain q k h
-query_plain q (Some n) unread.IndexJoin k h = joined_plain q k h
-query_plain q None unread.ReadFault k h = h
-query_plain q (Some n) unread.ReadFault k h = h
-query_plain q None unread.WriteFault k h = h
-query_plain q (Some n) unread.WriteFault k h = h
-query_plain q None (unread.Damaged file place) k h = h
-query_plain q (Some n) (unread.Damaged file place) k h = h
-query_plain q None (unread.Closed call) k h = h
-query_plain q (Some n) (unread.Closed call) k h = h
-query_plain q None unread.Memory k h = h
-query_plain q (Some n) unread.Memory k h = h
+query_plain : (sound : Type 0) (q : Query) (scn : Option ℕ) (f : QueryFault) (k : Known) → QueryFaultIs sound q scn f k → QueryFaultIs sound q scn f (plain k)
+query_plain sound q None unread.NoTable k h = h
+query_plain sound q (Some n) unread.NoTable k h = h
+query_plain sound q None (unread.BelowHorizon b) k h = absurd h
+query_plain sound q (Some n) (unread.BelowHorizon b) k h = h
+query_plain sound q None unread.IndexJoin k h = joined_plain q k h
+query_plain sound q (Some n) unread.IndexJoin k h = joined_plain q k h
+query_plain sound q None unread.ReadFault k h = h
+query_plain sound q (Some n) unread.ReadFault k h = h
+query_plain sound q None unread.WriteFault k h = h
+query_plain sound q (Some n) unread.WriteFault k h = h
+query_plain sound q None (unread.Damaged file place) k h = h
+query_plain sound q (Some n) (unread.Damaged file place) k h = h
+query_plain sound q None (unread.Closed call) k h = h
+query_plain sound q (Some n) (unread.Closed call) k h = h
+query_plain sound q None unread.Memory k h = h
+query_plain sound q (Some n) unread.Memory k h = h
 
 pub query_since_plain : (n : ℕ) (f : QueryFault) (k : Known) → QueryFaultSince n f k → QueryFaultSince n f (plain k)
 query_since_plain n unread.ReadFault k h = h
@@ -203,7 +203,7 @@ query_since_plain n f k h = h
 
 pub outcome_plain : (sound : Type 0) (p : Planned) (scn : Option ℕ) (own : List Act) (k : Known) (r : Result Selected QueryFault) → IsSelectOutcome sound p scn own k r → IsSelectOutcome sound p scn own (plain k) r
 outcome_plain sound p scn own k (Ok a) h = (record { point = h.0.point; is_point = h.0.is_point; at = h.0.at; path = h.0.path; chosen = h.0.chosen; taken = h.0.taken; answer = h.0.answer }, h.1, h.2, h.3)
-outcome_plain sound p scn own k (Err f) h = (query_plain (query_of p) scn f k h.0, h.1)
+outcome_plain sound p scn own k (Err f) h = (query_plain sound (query_of p) scn f k h.0, h.1)
 
 later_plain : (k : Known) → Later k (plain k)
 later_plain k = record { more = []; seen = sym (append-nil k.seen); base = refl; seat = refl }
@@ -280,28 +280,28 @@ asks_plain k first st p h false a = a
 was_found_plain : (n : ℕ) (name : List ℕ) (t : TableId) (k : Known) → counts.WasTableFound n name t k → counts.WasTableFound n name t (plain k)
 was_found_plain n name t k w = record { place = w.place; from = w.from; within = w.within; found = w.found; is = w.is; named = w.named; number = w.number }
 
-uncounted_plain : (n : ℕ) (name : List ℕ) (f : CountFault) (k : Known) → counts.CountFaultIs n name f k → counts.CountFaultIs n name f (plain k)
-uncounted_plain n name uncounted.NoTable k (inl i) = inl i
-uncounted_plain n name uncounted.NoTable k (inr i) = inr (i.0, was_found_plain n name i.0 k i.1, i.2)
-uncounted_plain n name uncounted.ReadFault k i = i
-uncounted_plain n name (uncounted.Damaged file place) k i = i
-uncounted_plain n name (uncounted.Closed call) k i = i
-uncounted_plain n name uncounted.Memory k i = i
+uncounted_plain : (sound : Type 0) (n : ℕ) (name : List ℕ) (f : CountFault) (k : Known) → counts.CountFaultIs sound n name f k → counts.CountFaultIs sound n name f (plain k)
+uncounted_plain sound n name uncounted.NoTable k (inl i) = inl i
+uncounted_plain sound n name uncounted.NoTable k (inr i) = inr (i.0, was_found_plain n name i.0 k i.1, i.2)
+uncounted_plain sound n name uncounted.ReadFault k i = i
+uncounted_plain sound n name (uncounted.Damaged file place) k i = i
+uncounted_plain sound n name (uncounted.Closed call) k i = i
+uncounted_plain sound n name uncounted.Memory k i = i
 
-pub counted_plain : (n : ℕ) (name : List ℕ) (k : Known) (r : Result Status CountFault) → counts.IsCountOutcome n name k r → counts.IsCountOutcome n name (plain k) r
-counted_plain n name k (Ok x) o = (o.0, was_found_plain n name o.0 k o.1, record { last = o.2.last; horizon = o.2.horizon; each = o.2.each; rising = o.2.rising; all = o.2.all })
-counted_plain n name k (Err f) o = uncounted_plain n name f k o
+pub counted_plain : (sound : Type 0) (n : ℕ) (name : List ℕ) (k : Known) (r : Result Status CountFault) → counts.IsCountOutcome sound n name k r → counts.IsCountOutcome sound n name (plain k) r
+counted_plain sound n name k (Ok x) o = (o.0, was_found_plain n name o.0 k o.1, record { last = o.2.last; horizon = o.2.horizon; each = o.2.each; rising = o.2.rising; all = o.2.all })
+counted_plain sound n name k (Err f) o = uncounted_plain sound n name f k o
 
 pub count_since_plain : (n : ℕ) (f : CountFault) (k : Known) → counts.CountFaultSince n f k → counts.CountFaultSince n f (plain k)
 count_since_plain n uncounted.ReadFault k h = h
 count_since_plain n f k h = h
 
-pub undone_plain : (f : OrderFault) (k : Known) → orders.OrderFaultIs f k → orders.OrderFaultIs f (plain k)
-undone_plain undone_by.ReadFault k h = h
-undone_plain undone_by.WriteFault k h = h
-undone_plain (undone_by.Damaged file place) k h = h
-undone_plain (undone_by.Closed call) k h = h
-undone_plain undone_by.Memory k h = h
+pub undone_plain : (sound : Type 0) (f : OrderFault) (k : Known) → orders.OrderFaultIs sound f k → orders.OrderFaultIs sound f (plain k)
+undone_plain sound undone_by.ReadFault k h = h
+undone_plain sound undone_by.WriteFault k h = h
+undone_plain sound (undone_by.Damaged file place) k h = h
+undone_plain sound (undone_by.Closed call) k h = h
+undone_plain sound undone_by.Memory k h = h
 
 pub order_since_plain : (n : ℕ) (f : OrderFault) (k : Known) → orders.OrderFaultSince n f k → orders.OrderFaultSince n f (plain k)
 order_since_plain n undone_by.ReadFault k h = h

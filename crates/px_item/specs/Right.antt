@@ -537,16 +537,16 @@ pub data IsRight (sound : Type 0) (k : Known) (before : ℕ) (own : List Act) (s
   is_not_committed : (again : Bool) (h : HeldData) (fault : BatchFault) → st.held ≡ Some h → AsksToCommit k a.first st p h again → commits.IsCommitOutcome sound h own k (Err fault) → batch.BatchFaultSince before fault k
       → StopsDelete a.reply h.name fault → (a.receipts ≡ []) × (a.places ≡ []) × (a.after ≡ next_is.Next (emptied st)) → IsRight sound k before own st p a
   -- a status tells of the table that was found
-  is_counted : (name : List ℕ) (s : Status) → IsCommandRead p (Ok (commands.Status name)) → counts.IsCountOutcome a.first name k (Ok s) → SaysOnly a (reply.Status s) st → own ≡ [] → IsRight sound k before own st p a
-  is_not_counted : (name : List ℕ) (fault : CountFault) → IsCommandRead p (Ok (commands.Status name)) → counts.IsCountOutcome a.first name k (Err fault) → counts.CountFaultSince before fault k
+  is_counted : (name : List ℕ) (s : Status) → IsCommandRead p (Ok (commands.Status name)) → counts.IsCountOutcome sound a.first name k (Ok s) → SaysOnly a (reply.Status s) st → own ≡ [] → IsRight sound k before own st p a
+  is_not_counted : (name : List ℕ) (fault : CountFault) → IsCommandRead p (Ok (commands.Status name)) → counts.IsCountOutcome sound a.first name k (Err fault) → counts.CountFaultSince before fault k
       → SaysRefused a (count_refusal name fault) st ⊎ SaysRefused a refusal.Memory st → own ≡ [] → IsRight sound k before own st p a
   -- an order is done, where upkeep had nothing left to do on a server that isn't closed
   is_ordered : (job : Ordered) → IsCommandRead p (Ok (command_ordering job)) → IsRunning k → SaysOnly a (order_reply job) st → own ≡ [] → IsRight sound k before own st p a
-  is_not_ordered : (job : Ordered) (fault : OrderFault) → IsCommandRead p (Ok (command_ordering job)) → orders.OrderFaultIs fault k → orders.OrderFaultSince before fault k → SaysRefused a (order_refusal fault) st → own ≡ [] → IsRight sound k before own st p a
+  is_not_ordered : (job : Ordered) (fault : OrderFault) → IsCommandRead p (Ok (command_ordering job)) → orders.OrderFaultIs sound fault k → orders.OrderFaultSince before fault k → SaysRefused a (order_refusal fault) st → own ≡ [] → IsRight sound k before own st p a
   -- a DROP, and an ALTER INDEX that disables one, is one entry
   is_defined : (x : Statement) (f : Found) (m : Made) (e : Definition) → IsReadItem p (Ok x) → st.scn ≡ None → IsBoundTo k.base k.seen a.first f (table_named x) → faults_in f x ≡ [] → definition_asked f x ≡ Some e → to_build e ≡ None → define.HasDefined e own k m
       → SaysOnly a (reply.Defined (definition_word x)) st → IsRight sound k before own st p a
-  is_not_defined : (x : Statement) (f : Found) (fault : DefineFault) (e : Definition) → IsReadItem p (Ok x) → st.scn ≡ None → IsBoundTo k.base k.seen a.first f (table_named x) → faults_in f x ≡ [] → definition_asked f x ≡ Some e → define.DefinitionFaultIs e fault k
+  is_not_defined : (x : Statement) (f : Found) (fault : DefineFault) (e : Definition) → IsReadItem p (Ok x) → st.scn ≡ None → IsBoundTo k.base k.seen a.first f (table_named x) → faults_in f x ≡ [] → definition_asked f x ≡ Some e → define.DefinitionFaultIs sound e fault k
       → define.DefinitionFaultSince before fault k → own ≡ [] → SaysOnly a (undefined x fault) st → IsRight sound k before own st p a
   -- a CREATE INDEX, and an ALTER INDEX that builds one again, is one entry and then a build, at whose end the index stood active as it was asked for; or the build is refused, and leaves the index as is told there
   is_index_built : (x : Statement) (f : Found) (e : Definition) (t : TableId) (m c : Made) (rest : List Act) → IsReadItem p (Ok x) → st.scn ≡ None → IsBoundTo k.base k.seen a.first f (table_named x) → faults_in f x ≡ [] → definition_asked f x ≡ Some e → to_build e ≡ Some t
@@ -556,7 +556,7 @@ pub data IsRight (sound : Type 0) (k : Known) (before : ℕ) (own : List Act) (s
   -- a CREATE TABLE is one entry
   is_created : (t : CreateTable) (m : Made) → IsReadItem p (Ok (s.CreateTable t)) → is_none_of t.splits ≡ true → st.scn ≡ None → table_faults t ≡ [] → define.HasDefined (d.Table (new_table t)) own k m → SaysOnly a (reply.Defined defined.TableCreated) st
       → IsRight sound k before own st p a
-  is_not_created : (t : CreateTable) (fault : DefineFault) → IsReadItem p (Ok (s.CreateTable t)) → is_none_of t.splits ≡ true → st.scn ≡ None → table_faults t ≡ [] → define.DefinitionFaultIs (d.Table (new_table t)) fault k → define.DefinitionFaultSince before fault k → own ≡ []
+  is_not_created : (t : CreateTable) (fault : DefineFault) → IsReadItem p (Ok (s.CreateTable t)) → is_none_of t.splits ≡ true → st.scn ≡ None → table_faults t ≡ [] → define.DefinitionFaultIs sound (d.Table (new_table t)) fault k → define.DefinitionFaultSince before fault k → own ≡ []
       → SaysOnly a (undefined (s.CreateTable t) fault) st → IsRight sound k before own st p a
   is_index_absent : (i : DropIndex) (f : Found) → IsReadItem p (Ok (s.DropIndex i)) → st.scn ≡ None → IsBoundTo k.base k.seen a.first f i.table → i.if_exists ≡ true → index_id_named f.indexes i.name ≡ None → SaysOnly a (reply.Defined defined.IndexAbsent) st → own ≡ []
       → IsRight sound k before own st p a

@@ -202,28 +202,28 @@ busy_room (step.Closed call) h = cc
 busy_room step.Memory h = cc
 
 -- a repair that was refused until there is room
-room_sees : (k k' : Known) (f : StepFault) → IsForRoom f → Refuses fix_cause k k' f → Sees k k'
-room_sees k k' (step.Busy region cells bytes) room h = h.1
-room_sees k k' (step.NotReady region) room h = h.1
-room_sees k k' step.NameExists room h = absurd room
-room_sees k k' step.NoTable room h = absurd room
-room_sees k k' step.NoIndex room h = absurd room
-room_sees k k' (step.Limit which count) room h = absurd room
-room_sees k k' (step.InUse count) room h = absurd room
-room_sees k k' (step.NotYet stamp) room h = absurd room
-room_sees k k' (step.BelowHorizon horizon) room h = absurd room
-room_sees k k' step.ReadFault room h = absurd room
-room_sees k k' step.WriteFault room h = absurd room
-room_sees k k' (step.Damaged file place) room h = absurd room
-room_sees k k' (step.Closed call) room h = absurd room
-room_sees k k' step.Memory room h = absurd room
+room_sees : (sound : Type 0) (k k' : Known) (f : StepFault) → IsForRoom f → Refuses (fix_cause sound) k k' f → Sees k k'
+room_sees sound k k' (step.Busy region cells bytes) room h = h.1
+room_sees sound k k' (step.NotReady region) room h = h.1
+room_sees sound k k' step.NameExists room h = absurd room
+room_sees sound k k' step.NoTable room h = absurd room
+room_sees sound k k' step.NoIndex room h = absurd room
+room_sees sound k k' (step.Limit which count) room h = absurd room
+room_sees sound k k' (step.InUse count) room h = absurd room
+room_sees sound k k' (step.NotYet stamp) room h = absurd room
+room_sees sound k k' (step.BelowHorizon horizon) room h = absurd room
+room_sees sound k k' step.ReadFault room h = absurd room
+room_sees sound k k' step.WriteFault room h = absurd room
+room_sees sound k k' (step.Damaged file place) room h = absurd room
+room_sees sound k k' (step.Closed call) room h = absurd room
+room_sees sound k k' step.Memory room h = absurd room
 
-pub refused_doubt : (k k' : Known) (f f' : Point → IndexVersion → Bool) (x : Scan) (rest : Rest) (d : Doubt) (fault : StepFault) → k.alone ≡ true → HasOpen k x.point → is_busy fault ≡ true → Refuses fix_cause k k' fault
+pub refused_doubt : (sound : Type 0) (k k' : Known) (f f' : Point → IndexVersion → Bool) (x : Scan) (rest : Rest) (d : Doubt) (fault : StepFault) → k.alone ≡ true → HasOpen k x.point → is_busy fault ≡ true → Refuses (fix_cause sound) k k' fault
     → (IsForRoom fault → AreStillDoubtful k f f') → KeepsDoubts (state.Fixing x rest d) k f (state.Settling x rest d) k' f'
-refused_doubt k k' f f' x rest d fault alone is_open busy refused stays =
+refused_doubt sound k k' f f' x rest d fault alone is_open busy refused stays =
     let room = busy_room fault busy in
     record {
-      kept = λ h. (still_doubtful k f f' x.point d rest.keys.items (stays room) is_open h.0, sees_due k k' d alone (room_sees k k' fault room refused) h.1);
+      kept = λ h. (still_doubtful k f f' x.point d rest.keys.items (stays room) is_open h.0, sees_due k k' d alone (room_sees sound k k' fault room refused) h.1);
       fixed = λ h. tt;
     }
 

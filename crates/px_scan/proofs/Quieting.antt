@@ -63,48 +63,48 @@ quiet-fixes k k' d fixing.InFlight h = quiet-sees k k' h.0.sees
 
 -- 2. What a refusal that ends the query comes to
 
-pub record Ends (q : Query) (k k' : Known) (f : StepFault) : Type 0 where
+pub record Ends (sound : Type 0) (q : Query) (k k' : Known) (f : StepFault) : Type 0 where
   pub ends : IsScanFault f
   pub quiet : Quiet k k'
-  pub told : FaultIs q (fault_of f) k'
+  pub told : FaultIs sound q (fault_of f) k'
   pub made : (m : ℕ) → m ≤ length k.seen → QueryFaultSince m (fault_of f) k'
 
-ends_missed : (q : Query) (k k' : Known) → ((call : ℕ) × Adds k k' (act.Missed call)) → Ends q k k' step.ReadFault
-ends_missed q k k' h = let m = missed k k' h.0 h.1 in record { ends = tt; quiet = m.quiet; told = (h.0, m.has); made = λ n le. (h.0, m.since n le) }
+ends_missed : (sound : Type 0) (q : Query) (k k' : Known) → ((call : ℕ) × Adds k k' (act.Missed call)) → Ends sound q k k' step.ReadFault
+ends_missed sound q k k' h = let m = missed k k' h.0 h.1 in record { ends = tt; quiet = m.quiet; told = (h.0, m.has); made = λ n le. (h.0, m.since n le) }
 
-ends_shut : (q : Query) (k k' : Known) → ((call : ℕ) × Adds k k' (act.Shut call)) → Ends q k k' step.WriteFault
-ends_shut q k k' h = let m = shut k k' h.0 h.1 in record { ends = tt; quiet = m.quiet; told = (h.0, m.has); made = λ n le. (h.0, m.since n le) }
+ends_shut : (sound : Type 0) (q : Query) (k k' : Known) → ((call : ℕ) × Adds k k' (act.Shut call)) → Ends sound q k k' step.WriteFault
+ends_shut sound q k k' h = let m = shut k k' h.0 h.1 in record { ends = tt; quiet = m.quiet; told = (h.0, m.has); made = λ n le. (h.0, m.since n le) }
 
-pub read_ends : (q : Query) (k k' : Known) (f : StepFault) → Refuses read_cause k k' f → Ends q k k' f
-read_ends q k k' step.ReadFault h = ends_missed q k k' h.1
-read_ends q k k' step.WriteFault h = absurd h.0
-read_ends q k k' (step.Damaged file place) h = record { ends = tt; quiet = quiet-sees k k' h.1; told = h.0; made = λ n le. tt }
-read_ends q k k' (step.Closed call) h = record { ends = tt; quiet = quiet-sees k k' h.1; told = h.0; made = λ n le. tt }
-read_ends q k k' step.Memory h = record { ends = tt; quiet = quiet-sees k k' h.1; told = tt; made = λ n le. tt }
-read_ends q k k' f h = absurd h.0
+pub read_ends : (sound : Type 0) (q : Query) (k k' : Known) (f : StepFault) → Refuses (read_cause sound) k k' f → Ends sound q k k' f
+read_ends sound q k k' step.ReadFault h = ends_missed sound q k k' h.1
+read_ends sound q k k' step.WriteFault h = absurd h.0
+read_ends sound q k k' (step.Damaged file place) h = record { ends = tt; quiet = quiet-sees k k' h.1; told = h.0; made = λ n le. tt }
+read_ends sound q k k' (step.Closed call) h = record { ends = tt; quiet = quiet-sees k k' h.1; told = h.0; made = λ n le. tt }
+read_ends sound q k k' step.Memory h = record { ends = tt; quiet = quiet-sees k k' h.1; told = tt; made = λ n le. tt }
+read_ends sound q k k' f h = absurd h.0
 
-pub work_ends : (q : Query) (k k' : Known) (f : StepFault) → Refuses upkeep_cause k k' f → Ends q k k' f
-work_ends q k k' step.ReadFault h = ends_missed q k k' h.1
-work_ends q k k' step.WriteFault h = ends_shut q k k' h.1
-work_ends q k k' (step.Damaged file place) h = record { ends = tt; quiet = quiet-sees k k' h.1; told = h.0; made = λ n le. tt }
-work_ends q k k' (step.Closed call) h = record { ends = tt; quiet = quiet-sees k k' h.1; told = h.0; made = λ n le. tt }
-work_ends q k k' step.Memory h = record { ends = tt; quiet = quiet-sees k k' h.1; told = tt; made = λ n le. tt }
-work_ends q k k' f h = absurd h.0
+pub work_ends : (sound : Type 0) (q : Query) (k k' : Known) (f : StepFault) → Refuses (upkeep_cause sound) k k' f → Ends sound q k k' f
+work_ends sound q k k' step.ReadFault h = ends_missed sound q k k' h.1
+work_ends sound q k k' step.WriteFault h = ends_shut sound q k k' h.1
+work_ends sound q k k' (step.Damaged file place) h = record { ends = tt; quiet = quiet-sees k k' h.1; told = h.0; made = λ n le. tt }
+work_ends sound q k k' (step.Closed call) h = record { ends = tt; quiet = quiet-sees k k' h.1; told = h.0; made = λ n le. tt }
+work_ends sound q k k' step.Memory h = record { ends = tt; quiet = quiet-sees k k' h.1; told = tt; made = λ n le. tt }
+work_ends sound q k k' f h = absurd h.0
 
-pub fix_ends : (q : Query) (k k' : Known) (f : StepFault) → Refuses fix_cause k k' f → is_busy f ≡ false → Ends q k k' f
-fix_ends q k k' step.ReadFault h n = ends_missed q k k' h.1
-fix_ends q k k' step.WriteFault h n = ends_shut q k k' h.1
-fix_ends q k k' (step.Damaged file place) h n = record { ends = tt; quiet = quiet-sees k k' h.1; told = h.0; made = λ n le. tt }
-fix_ends q k k' (step.Closed call) h n = record { ends = tt; quiet = quiet-sees k k' h.1; told = h.0; made = λ n le. tt }
-fix_ends q k k' step.Memory h n = record { ends = tt; quiet = quiet-sees k k' h.1; told = tt; made = λ n le. tt }
-fix_ends q k k' (step.Busy region cells bytes) h n = cc
-fix_ends q k k' (step.NotReady region) h n = cc
-fix_ends q k k' f h n = absurd h.0
+pub fix_ends : (sound : Type 0) (q : Query) (k k' : Known) (f : StepFault) → Refuses (fix_cause sound) k k' f → is_busy f ≡ false → Ends sound q k k' f
+fix_ends sound q k k' step.ReadFault h n = ends_missed sound q k k' h.1
+fix_ends sound q k k' step.WriteFault h n = ends_shut sound q k k' h.1
+fix_ends sound q k k' (step.Damaged file place) h n = record { ends = tt; quiet = quiet-sees k k' h.1; told = h.0; made = λ n le. tt }
+fix_ends sound q k k' (step.Closed call) h n = record { ends = tt; quiet = quiet-sees k k' h.1; told = h.0; made = λ n le. tt }
+fix_ends sound q k k' step.Memory h n = record { ends = tt; quiet = quiet-sees k k' h.1; told = tt; made = λ n le. tt }
+fix_ends sound q k k' (step.Busy region cells bytes) h n = cc
+fix_ends sound q k k' (step.NotReady region) h n = cc
+fix_ends sound q k k' f h n = absurd h.0
 
-pub fix_busy : (k k' : Known) (f : StepFault) → Refuses fix_cause k k' f → is_busy f ≡ true → Quiet k k'
-fix_busy k k' (step.Busy region cells bytes) h n = quiet-sees k k' h.1
-fix_busy k k' (step.NotReady region) h n = quiet-sees k k' h.1
-fix_busy k k' f h n = cc
+pub fix_busy : (sound : Type 0) (k k' : Known) (f : StepFault) → Refuses (fix_cause sound) k k' f → is_busy f ≡ true → Quiet k k'
+fix_busy sound k k' (step.Busy region cells bytes) h n = quiet-sees k k' h.1
+fix_busy sound k k' (step.NotReady region) h n = quiet-sees k k' h.1
+fix_busy sound k k' f h n = cc
 
 -- 3. What time leaves
 
@@ -149,15 +149,15 @@ later-joined q k k' h j =
       joins = j.joins;
     }
 
-pub later-fault : (q : Query) (f : QueryFault) (k k' : Known) → Later k k' → FaultIs q f k → FaultIs q f k'
-later-fault q fault.NoTable k k' h j = j
-later-fault q (fault.BelowHorizon n) k k' h j = j
-later-fault q fault.IndexJoin k k' h j = later-joined q k k' h j
-later-fault q fault.ReadFault k k' h j = (j.0, later-made k k' (act.Missed j.0) h j.1)
-later-fault q fault.WriteFault k k' h j = (j.0, later-made k k' (act.Shut j.0) h j.1)
-later-fault q (fault.Damaged file place) k k' h j = ap (λ (d : ℕ → ℕ → Bool). d file place) h.damaged ∙ j
-later-fault q (fault.Closed call) k k' h j = ap closing_call h.seen ∙ closing-grows k.seen h.more call j
-later-fault q fault.Memory k k' h j = tt
+pub later-fault : (sound : Type 0) (q : Query) (f : QueryFault) (k k' : Known) → Later k k' → FaultIs sound q f k → FaultIs sound q f k'
+later-fault sound q fault.NoTable k k' h j = j
+later-fault sound q (fault.BelowHorizon n) k k' h j = j
+later-fault sound q fault.IndexJoin k k' h j = later-joined q k k' h j
+later-fault sound q fault.ReadFault k k' h j = (j.0, later-made k k' (act.Missed j.0) h j.1)
+later-fault sound q fault.WriteFault k k' h j = (j.0, later-made k k' (act.Shut j.0) h j.1)
+later-fault sound q (fault.Damaged file place) k k' h j = (ap (λ (d : ℕ → ℕ → Bool). d file place) h.damaged ∙ j.0, j.1)
+later-fault sound q (fault.Closed call) k k' h j = ap closing_call h.seen ∙ closing-grows k.seen h.more call j
+later-fault sound q fault.Memory k k' h j = tt
 
 made_on : (m : ℕ) (a : Act) (k k' : Known) → m ≤ length k.seen → Later k k' → IsAmong a (acts_by k.seat (drop m k.seen)) → IsAmong a (acts_by k'.seat (drop m k'.seen))
 made_on m a k k' le g h =
@@ -184,19 +184,19 @@ made-earlier n m fault.ReadFault k le j = (j.0, made_from n m (act.Missed j.0) k
 made-earlier n m fault.WriteFault k le j = (j.0, made_from n m (act.Shut j.0) k le j.1)
 made-earlier n m f k le j = tt
 
-pub fault_in : (q : Query) (scn : Option ℕ) (f : QueryFault) (k : Known) → FaultIs q f k → QueryFaultIs q scn f k
-fault_in q scn fault.NoTable k j = absurd j
-fault_in q None (fault.BelowHorizon h) k j = absurd j
-fault_in q (Some scn) (fault.BelowHorizon h) k j = absurd j
-fault_in q None fault.IndexJoin k j = j
-fault_in q (Some scn) fault.IndexJoin k j = j
-fault_in q None fault.ReadFault k j = j
-fault_in q (Some scn) fault.ReadFault k j = j
-fault_in q None fault.WriteFault k j = j
-fault_in q (Some scn) fault.WriteFault k j = j
-fault_in q None (fault.Damaged file place) k j = j
-fault_in q (Some scn) (fault.Damaged file place) k j = j
-fault_in q None (fault.Closed call) k j = j
-fault_in q (Some scn) (fault.Closed call) k j = j
-fault_in q None fault.Memory k j = j
-fault_in q (Some scn) fault.Memory k j = j
+pub fault_in : (sound : Type 0) (q : Query) (scn : Option ℕ) (f : QueryFault) (k : Known) → FaultIs sound q f k → QueryFaultIs sound q scn f k
+fault_in sound q scn fault.NoTable k j = absurd j
+fault_in sound q None (fault.BelowHorizon h) k j = absurd j
+fault_in sound q (Some scn) (fault.BelowHorizon h) k j = absurd j
+fault_in sound q None fault.IndexJoin k j = j
+fault_in sound q (Some scn) fault.IndexJoin k j = j
+fault_in sound q None fault.ReadFault k j = j
+fault_in sound q (Some scn) fault.ReadFault k j = j
+fault_in sound q None fault.WriteFault k j = j
+fault_in sound q (Some scn) fault.WriteFault k j = j
+fault_in sound q None (fault.Damaged file place) k j = j
+fault_in sound q (Some scn) (fault.Damaged file place) k j = j
+fault_in sound q None (fault.Closed call) k j = j
+fault_in sound q (Some scn) (fault.Closed call) k j = j
+fault_in sound q None fault.Memory k j = j
+fault_in sound q (Some scn) fault.Memory k j = j

@@ -120,7 +120,7 @@ fits-kept sound q scn (state.Closing p (Ok rows)) k k' h f = let g = grown-passe
 fits-kept sound q scn (state.Closing p (Err e)) k k' h f =
     let g = grown-passes k k' h in
     let l = later-grown k k' g in
-    (grown-reading k k' q scn p g f.0, (later-fault q e k k' l f.1.0, made-later p.found.at e k k' f.0.point.within l f.1.1))
+    (grown-reading k k' q scn p g f.0, (later-fault sound q e k k' l f.1.0, made-later p.found.at e k k' f.0.point.within l f.1.1))
 fits-kept sound q scn state.Over k k' h f = tt
 
 -- 2. States that go on from a point
@@ -140,7 +140,7 @@ goes-settling sound k q scn x r d h v = record { fits = (h, v); going = tt; open
 pub goes-ended : (sound : Type 0) (k : Known) (q : Query) (scn : Option ℕ) (p : Point) (path : Path) (rows : Vec Placed Global) → IsReadingAt k q scn p → IsPathFor q p path → (sound → Ended (frame_of q k p path) k.seen (given_of rows.items)) → GoesOn sound k q scn p (state.Closing p (Ok rows))
 goes-ended sound k q scn p path rows h c e = record { fits = (h, (path, c, e)); going = tt; opened_is = refl; since = λ n le. le }
 
-pub goes-failed : (sound : Type 0) (k : Known) (q : Query) (scn : Option ℕ) (p : Point) (f : QueryFault) → IsReadingAt k q scn p → FaultIs q f k → QueryFaultSince p.found.at f k → GoesOn sound k q scn p (state.Closing p (Err f))
+pub goes-failed : (sound : Type 0) (k : Known) (q : Query) (scn : Option ℕ) (p : Point) (f : QueryFault) → IsReadingAt k q scn p → FaultIs sound q f k → QueryFaultSince p.found.at f k → GoesOn sound k q scn p (state.Closing p (Err f))
 goes-failed sound k q scn p f h told made = record { fits = (h, (told, made)); going = tt; opened_is = refl; since = λ n le. le }
 
 -- a step that went on from a point
@@ -155,7 +155,7 @@ steps sound k k' q scn p old new h was since g edge = record {
 }
 
 -- a step that ended the scan with a fault
-pub fails : (sound : Type 0) (k k' : Known) (q : Query) (scn : Option ℕ) (p : Point) (old new : QueryState) (f : QueryFault) → new ≡ state.Closing p (Err f) → IsReadingAt k q scn p → opened_by_query old ≡ opening p → ((n : ℕ) → IsQuerySince n old k → n ≤ p.found.at) → Quiet k k' → FaultIs q f k' → QueryFaultSince p.found.at f k' → QueryEdge sound old k (state.Closing p (Err f)) k' → QueryTurns sound q scn old k new k' turn.Stepped
+pub fails : (sound : Type 0) (k k' : Known) (q : Query) (scn : Option ℕ) (p : Point) (old new : QueryState) (f : QueryFault) → new ≡ state.Closing p (Err f) → IsReadingAt k q scn p → opened_by_query old ≡ opening p → ((n : ℕ) → IsQuerySince n old k → n ≤ p.found.at) → Quiet k k' → FaultIs sound q f k' → QueryFaultSince p.found.at f k' → QueryEdge sound old k (state.Closing p (Err f)) k' → QueryTurns sound q scn old k new k' turn.Stepped
 fails sound k k' q scn p old new f is h was since quiet told made edge =
     subst (λ (n : QueryState). QueryTurns sound q scn old k n k' turn.Stepped) (sym is)
     (steps sound k k' q scn p old (state.Closing p (Err f)) quiet was since (goes-failed sound k' q scn p f (grown-reading k k' q scn p (grown-quiet k k' quiet) h) told made) edge)
@@ -239,8 +239,8 @@ after-fix d k k' w (state.Closing p (Ok u)) n h = (n, (w, h))
 after-fix d k k' w (state.Closing p (Err f)) n h = tt
 after-fix d k k' w state.Over n h = absurd n
 
-pub no-memory : (q : Query) (f : QueryFault) (k : Known) → f ≡ fault.Memory → FaultIs q f k
-no-memory q f k is = subst (λ (g : QueryFault). FaultIs q g k) (sym is) tt
+pub no-memory : (sound : Type 0) (q : Query) (f : QueryFault) (k : Known) → f ≡ fault.Memory → FaultIs sound q f k
+no-memory sound q f k is = subst (λ (g : QueryFault). FaultIs sound q g k) (sym is) tt
 
 pub no-memory-made : (m : ℕ) (f : QueryFault) (k : Known) → f ≡ fault.Memory → QueryFaultSince m f k
 no-memory-made m f k is = subst (λ (g : QueryFault). QueryFaultSince m g k) (sym is) tt
@@ -306,7 +306,7 @@ opens sound k k' q scn t rows p new number d g =
       edge = tt;
     }
 
-pub unopened : (sound : Type 0) (k k' : Known) (q : Query) (scn : Option ℕ) (rows : Vec Placed Global) (f : QueryFault) → QueryFaultIs q scn f k' → Sees k k' → ((n : ℕ) → QueryFaultSince n f k') → QueryTurns sound q scn (state.Opening rows) k state.Over k' (turn.Over (Err f))
+pub unopened : (sound : Type 0) (k k' : Known) (q : Query) (scn : Option ℕ) (rows : Vec Placed Global) (f : QueryFault) → QueryFaultIs sound q scn f k' → Sees k k' → ((n : ℕ) → QueryFaultSince n f k') → QueryTurns sound q scn (state.Opening rows) k state.Over k' (turn.Over (Err f))
 unopened sound k k' q scn rows f told h made = record {
   acts = [];
   ran = ran-sees k k' h;
@@ -330,21 +330,21 @@ awaits sound k k' q (Some scn) t rows stamp number f h =
       edge = tt;
     }
 
-pub below-horizon : (k k' : Known) (q : Query) (t : TableId) (h : ℕ) (scn : Option ℕ) → t.0 ≡ q.table → Refuses (open_cause t.0 scn) k k' (step.BelowHorizon h) → QueryFaultIs q scn (fault.BelowHorizon h) k' × Sees k k'
-below-horizon k k' q t h None number j = absurd j.0
-below-horizon k k' q t h (Some scn) number j = (subst (λ (u : ℕ). open_cause u (Some scn) (step.BelowHorizon h) k') number j.0, j.1)
+pub below-horizon : (sound : Type 0) (k k' : Known) (q : Query) (t : TableId) (h : ℕ) (scn : Option ℕ) → t.0 ≡ q.table → Refuses (open_cause t.0 scn) k k' (step.BelowHorizon h) → QueryFaultIs sound q scn (fault.BelowHorizon h) k' × Sees k k'
+below-horizon sound k k' q t h None number j = absurd j.0
+below-horizon sound k k' q t h (Some scn) number j = (subst (λ (u : ℕ). open_cause u (Some scn) (step.BelowHorizon h) k') number j.0, j.1)
 
-pub no-table : (k k' : Known) (q : Query) (t : TableId) (scn : Option ℕ) → t.0 ≡ q.table → Refuses (open_cause t.0 scn) k k' step.NoTable → QueryFaultIs q scn fault.NoTable k' × Sees k k'
-no-table k k' q t None number j = (ap (λ (u : ℕ). table_of k'.base k'.seen u) (sym number) ∙ j.0, j.1)
-no-table k k' q t (Some scn) number j = (ap (λ (u : ℕ). table_of k'.base k'.seen u) (sym number) ∙ j.0, j.1)
+pub no-table : (sound : Type 0) (k k' : Known) (q : Query) (t : TableId) (scn : Option ℕ) → t.0 ≡ q.table → Refuses (open_cause t.0 scn) k k' step.NoTable → QueryFaultIs sound q scn fault.NoTable k' × Sees k k'
+no-table sound k k' q t None number j = (ap (λ (u : ℕ). table_of k'.base k'.seen u) (sym number) ∙ j.0, j.1)
+no-table sound k k' q t (Some scn) number j = (ap (λ (u : ℕ). table_of k'.base k'.seen u) (sym number) ∙ j.0, j.1)
 
-pub open-closed : (k k' : Known) (q : Query) (t : TableId) (call : ℕ) (scn : Option ℕ) → Refuses (open_cause t.0 scn) k k' (step.Closed call) → QueryFaultIs q scn (fault.Closed call) k' × Sees k k'
-open-closed k k' q t call None j = (j.0, j.1)
-open-closed k k' q t call (Some scn) j = (j.0, j.1)
+pub open-closed : (sound : Type 0) (k k' : Known) (q : Query) (t : TableId) (call : ℕ) (scn : Option ℕ) → Refuses (open_cause t.0 scn) k k' (step.Closed call) → QueryFaultIs sound q scn (fault.Closed call) k' × Sees k k'
+open-closed sound k k' q t call None j = (j.0, j.1)
+open-closed sound k k' q t call (Some scn) j = (j.0, j.1)
 
-pub open-memory : (k k' : Known) (q : Query) (t : TableId) (scn : Option ℕ) → Refuses (open_cause t.0 scn) k k' step.Memory → QueryFaultIs q scn fault.Memory k' × Sees k k'
-open-memory k k' q t None j = (tt, j.1)
-open-memory k k' q t (Some scn) j = (tt, j.1)
+pub open-memory : (sound : Type 0) (k k' : Known) (q : Query) (t : TableId) (scn : Option ℕ) → Refuses (open_cause t.0 scn) k k' step.Memory → QueryFaultIs sound q scn fault.Memory k' × Sees k k'
+open-memory sound k k' q t None j = (tt, j.1)
+open-memory sound k k' q t (Some scn) j = (tt, j.1)
 
 -- 5. The closing
 
@@ -400,7 +400,7 @@ closes-err sound k k' q scn p f h adds =
       fits = tt;
       told = (
         refl,
-        (fault_in q scn f k' (later-fault q f k k' l h.1.0), inr (p.stamp, p.scn, ap (λ (t : TableId). act.Opened t p.stamp p.scn ∷ act.Released t p.stamp ∷ []) number)),
+        (fault_in sound q scn f k' (later-fault sound q f k k' l h.1.0), inr (p.stamp, p.scn, ap (λ (t : TableId). act.Opened t p.stamp p.scn ∷ act.Released t p.stamp ∷ []) number)),
       );
       since = λ n s. made-earlier n p.found.at f k' s (made-later p.found.at f k k' h.0.point.within l h.1.1);
       edge = tt;

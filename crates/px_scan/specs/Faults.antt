@@ -43,21 +43,21 @@ pub record IsJoined (q : Query) (k : Known) : Type 0 where
   pub joins : q.joins found stamp ≡ true
 
 -- what tells a fault of a scan, in what the seat has then seen
-abbrev pub FaultIs : Query → QueryFault → Known → Type 0
-FaultIs q fault.NoTable k = ⊥
-FaultIs q (fault.BelowHorizon h) k = ⊥
-FaultIs q fault.IndexJoin k = IsJoined q k
-FaultIs q fault.ReadFault k = (call : ℕ) × HasMade k (act.Missed call)
-FaultIs q fault.WriteFault k = (call : ℕ) × HasMade k (act.Shut call)
-FaultIs q (fault.Damaged file place) k = IsDamagedAt k file place
-FaultIs q (fault.Closed call) k = ClosedBy call k
-FaultIs q fault.Memory k = Unit {0}
+abbrev pub FaultIs : Type 0 → Query → QueryFault → Known → Type 0
+FaultIs sound q fault.NoTable k = ⊥
+FaultIs sound q (fault.BelowHorizon h) k = ⊥
+FaultIs sound q fault.IndexJoin k = IsJoined q k
+FaultIs sound q fault.ReadFault k = (call : ℕ) × HasMade k (act.Missed call)
+FaultIs sound q fault.WriteFault k = (call : ℕ) × HasMade k (act.Shut call)
+FaultIs sound q (fault.Damaged file place) k = IsDamagedAt sound k file place
+FaultIs sound q (fault.Closed call) k = ClosedBy call k
+FaultIs sound q fault.Memory k = Unit {0}
 
 -- and of a query, whose point may be refused
-abbrev pub QueryFaultIs : Query → Option ℕ → QueryFault → Known → Type 0
-QueryFaultIs q scn fault.NoTable k = LacksTable k q.table
-QueryFaultIs q (Some scn) (fault.BelowHorizon h) k = TableStands k q.table × (horizon_of k.base q.table k.seen ≡ h) × (scn - 1 < h)
-QueryFaultIs q scn f k = FaultIs q f k
+abbrev pub QueryFaultIs : Type 0 → Query → Option ℕ → QueryFault → Known → Type 0
+QueryFaultIs sound q scn fault.NoTable k = LacksTable k q.table
+QueryFaultIs sound q (Some scn) (fault.BelowHorizon h) k = TableStands k q.table × (horizon_of k.base q.table k.seen ≡ h) × (scn - 1 < h)
+QueryFaultIs sound q scn f k = FaultIs sound q f k
 
 -- the entry that tells a failed device call is one of the seat's own after the first n
 abbrev pub QueryFaultSince : ℕ → QueryFault → Known → Type 0

@@ -87,7 +87,7 @@ pub record IsScanning (sound : Type 0) (k : Known) (q : Query) (scn : Option ℕ
 -- how a scan ended, whose point is still to be closed
 abbrev pub HasEnded : Type 0 → Known → Query → Point → Result (Vec Placed Global) QueryFault → Type 0
 HasEnded sound k q p (Ok rows) = (path : Path) × IsPathFor q p path × (sound → Ended (frame_of q k p path) k.seen (given_of rows.items))
-HasEnded sound k q p (Err f) = FaultIs q f k × QueryFaultSince p.found.at f k
+HasEnded sound k q p (Err f) = FaultIs sound q f k × QueryFaultSince p.found.at f k
 
 -- The state is as the trail tells, and what was gathered is right if what was opened is sound. Others' entries keep this
 abbrev pub FitsScan : Type 0 → Query → Option ℕ → QueryState → Known → Type 0
@@ -155,7 +155,7 @@ pub record IsQueryAnswer (sound : Type 0) (k : Known) (q : Query) (scn : Option 
 -- What a query came to, where `own` is what the seat began, ended, opened, closed and defined for it
 abbrev pub IsQueryOutcome : Type 0 → Query → Option ℕ → List Act → Known → Result Answer QueryFault → Type 0
 IsQueryOutcome sound q scn own k (Ok a) = IsQueryAnswer sound k q scn a × (own ≡ point_acts k.base k.seen q scn a.first) × (a.first ≤ a.last) × (a.last ≡ length k.seen)
-IsQueryOutcome sound q scn own k (Err f) = QueryFaultIs q scn f k × ((own ≡ []) ⊎ OpensAndCloses q own)
+IsQueryOutcome sound q scn own k (Err f) = QueryFaultIs sound q scn f k × ((own ≡ []) ⊎ OpensAndCloses q own)
 
 -- 4. Steps
 

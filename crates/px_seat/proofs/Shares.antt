@@ -110,29 +110,29 @@ open_shared t None f k h = h
 open_shared t (Some scn) (NotYet s) k h = (h.0, h.1, record { below = h.2.below; batch = h.2.batch; is = h.2.is; left = h.2.left })
 open_shared t (Some scn) f k h = h
 
-pub read_shared : IsShared read_cause
-read_shared ReadFault k h = h
-read_shared f k h = h
+pub read_shared : (sound : Type 0) → IsShared (read_cause sound)
+read_shared sound ReadFault k h = h
+read_shared sound f k h = h
 
-pub fix_shared : IsShared fix_cause
-fix_shared ReadFault k h = h
-fix_shared f k h = h
+pub fix_shared : (sound : Type 0) → IsShared (fix_cause sound)
+fix_shared sound ReadFault k h = h
+fix_shared sound f k h = h
 
 pub base_shared : IsShared base_cause
 base_shared WriteFault k h = h
 base_shared f k h = h
 
-pub upkeep_shared : IsShared upkeep_cause
-upkeep_shared ReadFault k h = h
-upkeep_shared f k h = h
+pub upkeep_shared : (sound : Type 0) → IsShared (upkeep_cause sound)
+upkeep_shared sound ReadFault k h = h
+upkeep_shared sound f k h = h
 
 pub order_shared : IsShared order_cause
 order_shared ReadFault k h = h
 order_shared f k h = h
 
-pub status_shared : (t : ℕ) → IsShared (status_cause t)
-status_shared t ReadFault k h = h
-status_shared t f k h = h
+pub status_shared : (sound : Type 0) (t : ℕ) → IsShared (status_cause sound t)
+status_shared sound t ReadFault k h = h
+status_shared sound t f k h = h
 
 -- 3. Answers
 

@@ -231,7 +231,7 @@ impl<S: Single, B: Based> Owned<S, B> {
         ensures grew { Grew (S.known self.old) (S.known self.new) }
         ensures owned { IsOwned B.base B.damaged (S.known self.new) }
         ensures ok { IfOk result (DidLook S.sound (S.known self.old) (S.known self.new) p.now path.now after.now) }
-        ensures refused { IfErr result (Refuses read_cause (S.known self.old) (S.known self.new)) }
+        ensures refused { IfErr result (Refuses (read_cause S.sound) (S.known self.old) (S.known self.new)) }
     {
         self.core.look(p, path, after)
     }
@@ -244,7 +244,7 @@ impl<S: Single, B: Based> Owned<S, B> {
         ensures owned { IsOwned B.base B.damaged (S.known self.new) }
         ensures ok { IfOk result (DidConsult S.sound (S.known self.old) (S.known self.new) p.now d.old d.new) }
         ensures same { IfErr result (λ f. d.new ≡ d.old) }
-        ensures refused { IfErr result (Refuses read_cause (S.known self.old) (S.known self.new)) }
+        ensures refused { IfErr result (Refuses (read_cause S.sound) (S.known self.old) (S.known self.new)) }
     {
         self.core.consult(p, d)
     }
@@ -255,7 +255,7 @@ impl<S: Single, B: Based> Owned<S, B> {
         ensures grew { Grew (S.known self.old) (S.known self.new) }
         ensures owned { IsOwned B.base B.damaged (S.known self.new) }
         ensures ok { IfOk result (DidFix (S.known self.old) (S.known self.new) d.now) }
-        ensures refused { IfErr result (Refuses fix_cause (S.known self.old) (S.known self.new)) }
+        ensures refused { IfErr result (Refuses (fix_cause S.sound) (S.known self.old) (S.known self.new)) }
     {
         self.core.fix(d)
     }
@@ -306,7 +306,7 @@ impl<S: Single, B: Based> Owned<S, B> {
         ensures owned { IsOwned B.base B.damaged (S.known self.new) }
         ensures ok { IfOk result (DidWork (S.known self.old) (S.known self.new)) }
         ensures done { IfOk result (λ work. IsIdleWork work → (job : Orders) → S.done self.new job) }
-        ensures refused { IfErr result (Refuses upkeep_cause (S.known self.old) (S.known self.new)) }
+        ensures refused { IfErr result (Refuses (upkeep_cause S.sound) (S.known self.old) (S.known self.new)) }
     {
         self.core.upkeep()
     }
@@ -316,7 +316,7 @@ impl<S: Single, B: Based> Owned<S, B> {
         ensures grew { Grew (S.known self.old) (S.known self.new) }
         ensures owned { IsOwned B.base B.damaged (S.known self.new) }
         ensures ok { IfOk result (DidCount (S.known self.old) (S.known self.new) table) }
-        ensures refused { IfErr result (Refuses (status_cause table.0) (S.known self.old) (S.known self.new)) }
+        ensures refused { IfErr result (Refuses (status_cause S.sound table.0) (S.known self.old) (S.known self.new)) }
     {
         self.core.status(table)
     }

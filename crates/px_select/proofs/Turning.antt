@@ -22,9 +22,9 @@ use Rattle.px_select.specs.Selecting.{IsEnd, IsSelectOutcome, IsSelectSinceThen,
 
 -- 1. The end
 
-memory_is : (q : Query) (scn : Option ℕ) (k : Known) → QueryFaultIs q scn fault.Memory k
-memory_is q None k = tt
-memory_is q (Some n) k = tt
+memory_is : (sound : Type 0) (q : Query) (scn : Option ℕ) (k : Known) → QueryFaultIs sound q scn fault.Memory k
+memory_is sound q None k = tt
+memory_is sound q (Some n) k = tt
 
 end_is : (sound : Type 0) (p : Planned) (scn : Option ℕ) (own : List Act) (k : Known) (end : Result Answer QueryFault) (r : Result Selected QueryFault) → IsEnd p.asked end r → IsQueryOutcome sound (query_of p) scn own k end → IsSelectOutcome sound p scn own k r
 end_is sound p scn own k (Ok x) (Ok s) e h =
@@ -43,7 +43,7 @@ end_is sound p scn own k (Ok x) (Ok s) e h =
       h.3,
     )
 end_is sound p scn own k (Ok x) (Err f) e h =
-    subst (λ (w : QueryFault). IsSelectOutcome sound p scn own k (Err w)) (sym e) (memory_is (query_of p) scn k, inr (_, _, h.1))
+    subst (λ (w : QueryFault). IsSelectOutcome sound p scn own k (Err w)) (sym e) (memory_is sound (query_of p) scn k, inr (_, _, h.1))
 end_is sound p scn own k (Err f) (Ok s) e h = absurd e
 end_is sound p scn own k (Err f) (Err g) e h = subst (λ (w : QueryFault). IsSelectOutcome sound p scn own k (Err w)) (sym e) h
 

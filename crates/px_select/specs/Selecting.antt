@@ -40,7 +40,7 @@ pub record IsSelectAnswer (sound : Type 0) (k : Known) (p : Planned) (scn : Opti
 -- What a SELECT came to, where `own` is what the seat began, ended, opened, closed and defined for it
 abbrev pub IsSelectOutcome : Type 0 → Planned → Option ℕ → List Act → Known → Result Selected QueryFault → Type 0
 IsSelectOutcome sound p scn own k (Ok a) = IsSelectAnswer sound k p scn a × (own ≡ point_acts k.base k.seen (query_of p) scn a.first) × (a.first ≤ a.last) × (a.last ≡ length k.seen)
-IsSelectOutcome sound p scn own k (Err f) = QueryFaultIs (query_of p) scn f k × ((own ≡ []) ⊎ OpensAndCloses (query_of p) own)
+IsSelectOutcome sound p scn own k (Err f) = QueryFaultIs sound (query_of p) scn f k × ((own ≡ []) ⊎ OpensAndCloses (query_of p) own)
 
 -- what is answered of a scan that is over: its rows sorted, cut and shown, its fault, or that no memory was found
 abbrev pub IsEnd : Asked → Result Answer QueryFault → Result Selected QueryFault → Type 0

@@ -68,7 +68,7 @@ module _ (sound : Type 0) (n : ℕ) (t : TableId) (i : IndexId) (k k' : Known) (
   told : (x : Definition) (f : DefineFault)
       → (definition_cause x step.NoTable k' → BuildFaultIs sound t.0 i.0 why.NoTable k') → (definition_cause x step.NoIndex k' → BuildFaultIs sound t.0 i.0 why.NoIndex k')
       → ((which : Bound) (count : ℕ) → definition_cause x (step.Limit which count) k' → BuildFaultIs sound t.0 i.0 (why.Limit which count) k')
-      → define.DefinitionFaultIs x f k' → define.DefinitionFaultSince n f k' → WasRefused sound n t.0 i.0 (fault_of_definition f) k'
+      → define.DefinitionFaultIs sound x f k' → define.DefinitionFaultSince n f k' → WasRefused sound n t.0 i.0 (fault_of_definition f) k'
   told x fault.NoTable table index limit h m = plain sound n t.0 i.0 why.NoTable k' now (table h) tt
   told x fault.NoIndex table index limit h m = plain sound n t.0 i.0 why.NoIndex k' now (index h) tt
   told x (fault.Limit which count) table index limit h m = plain sound n t.0 i.0 (why.Limit which count) k' now (limit which count h) tt
@@ -82,13 +82,13 @@ module _ (sound : Type 0) (n : ℕ) (t : TableId) (i : IndexId) (k k' : Known) (
   lacks : Rattle.px_calls.specs.Causes.LacksIndex k' t.0 i.0 → LacksIndexOf k' t.0 i.0
   lacks h = record { table = h.0; none = λ x is number. h.1 x is }
 
-  pub active-told : (f : DefineFault) → define.DefinitionFaultIs (d.Active t i) f k' → define.DefinitionFaultSince n f k' → WasRefused sound n t.0 i.0 (fault_of_definition f) k'
+  pub active-told : (f : DefineFault) → define.DefinitionFaultIs sound (d.Active t i) f k' → define.DefinitionFaultSince n f k' → WasRefused sound n t.0 i.0 (fault_of_definition f) k'
   active-told f h m = told (d.Active t i) f (λ z. z) lacks (λ which count z. absurd z) h m
 
-  pub renewed-told : (f : DefineFault) → define.DefinitionFaultIs (d.Rebuilding t i) f k' → define.DefinitionFaultSince n f k' → WasRefused sound n t.0 i.0 (fault_of_definition f) k'
+  pub renewed-told : (f : DefineFault) → define.DefinitionFaultIs sound (d.Rebuilding t i) f k' → define.DefinitionFaultSince n f k' → WasRefused sound n t.0 i.0 (fault_of_definition f) k'
   renewed-told f h m = told (d.Rebuilding t i) f (λ z. z) lacks (λ which count z. limits sound t.0 i.0 which count k' z) h m
 
-  pub disabled-told : (f : DefineFault) → define.DefinitionFaultIs (d.Disabled t i) f k' → define.DefinitionFaultSince n f k' → WasRefused sound n t.0 i.0 (fault_of_definition f) k'
+  pub disabled-told : (f : DefineFault) → define.DefinitionFaultIs sound (d.Disabled t i) f k' → define.DefinitionFaultSince n f k' → WasRefused sound n t.0 i.0 (fault_of_definition f) k'
   disabled-told f h m = told (d.Disabled t i) f (λ z. z) lacks (λ which count z. absurd z) h m
 
 -- 3. The index becomes active
@@ -208,7 +208,7 @@ module _ (sound : Type 0) (n : ℕ) (t : TableId) (i : IndexId) (own : List Act)
   pub not-active : (p : Point) (old : DefineRun) (new : DefineState) (f : DefineFault) (k k' : Known) → FitsState sound n t i own (s.Activating p old) k → define.DefinitionTurns sound old.definition old.state k new k' (dt.Over (Err f)) → Leads sound n t i own k k' (came.On (s.Closing p (next_of (fault_of_definition f))))
   not-active p old new f k k' fits z =
       let a = fits.is.1 in
-      let cause = subst (λ (y : Definition). define.DefinitionFaultIs y f k') a.defining.0 z.told.1.0 in
+      let cause = subst (λ (y : Definition). define.DefinitionFaultIs sound y f k') a.defining.0 z.told.1.0 in
       let quiet = z.told.1.1 in
       let now = asked-later n t i k k' (past-ran k k' z.acts z.ran) fits.asked in
       let g = grown-ran k k' z.acts z.ran quiet a.held.legal in
@@ -293,7 +293,7 @@ module _ (sound : Type 0) (n : ℕ) (t : TableId) (i : IndexId) (own : List Act)
 
   pub not-renewed : (old : DefineRun) (new : DefineState) (f : DefineFault) (k k' : Known) → FitsState sound n t i own (s.Renewing old) k → define.DefinitionTurns sound old.definition old.state k new k' (dt.Over (Err f)) → Leads sound n t i own k k' (came.Over (Err (fault_of_definition f)))
   not-renewed old new f k k' fits z =
-      let cause = subst (λ (y : Definition). define.DefinitionFaultIs y f k') fits.is.1.0 z.told.1.0 in
+      let cause = subst (λ (y : Definition). define.DefinitionFaultIs sound y f k') fits.is.1.0 z.told.1.0 in
       let now = asked-later n t i k k' (past-ran k k' z.acts z.ran) fits.asked in
       record {
         acts = z.acts;
@@ -340,7 +340,7 @@ module _ (sound : Type 0) (n : ℕ) (t : TableId) (i : IndexId) (own : List Act)
 
   pub not-disabled : (old : DefineRun) (new : DefineState) (first : BuildFault) (f : DefineFault) (k k' : Known) → FitsState sound n t i own (s.Disabling old first) k → define.DefinitionTurns sound old.definition old.state k new k' (dt.Over (Err f)) → Leads sound n t i own k k' (came.Over (Err (first_or first (fault_of_definition f))))
   not-disabled old new first f k k' fits z =
-      let cause = subst (λ (y : Definition). define.DefinitionFaultIs y f k') fits.is.1.0 z.told.1.0 in
+      let cause = subst (λ (y : Definition). define.DefinitionFaultIs sound y f k') fits.is.1.0 z.told.1.0 in
       let past = past-ran k k' z.acts z.ran in
       let now = asked-later n t i k k' past fits.asked in
       record {

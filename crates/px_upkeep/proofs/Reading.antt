@@ -252,23 +252,23 @@ module _ (sound : Type 0) (n : ℕ) (t : TableId) (i : IndexId) (own : List Act)
         };
       }
 
-  read_tells : (k' : Known) → Tells sound n t.0 i.0 read_cause k'
+  read_tells : (k' : Known) → Tells sound n t.0 i.0 (read_cause sound) k'
   read_tells k' = record { table = λ h. absurd h; horizon = λ z h. absurd h; damaged = λ file place h. h; closed = λ call h. h }
 
   base_tells : (k' : Known) → Tells sound n t.0 i.0 base_cause k'
   base_tells k' = record { table = λ h. absurd h; horizon = λ z h. absurd h; damaged = λ file place h. absurd h; closed = λ call h. h }
 
-  upkeep_tells : (k' : Known) → Tells sound n t.0 i.0 upkeep_cause k'
+  upkeep_tells : (k' : Known) → Tells sound n t.0 i.0 (upkeep_cause sound) k'
   upkeep_tells k' = record { table = λ h. absurd h; horizon = λ z h. absurd h; damaged = λ file place h. h; closed = λ call h. h }
 
-  pub look-refused : (b : Build) (after : Option (List ℕ)) (g : Gathered) (f : StepFault) (k k' : Known) → FitsState sound n t i own (s.Reading b after g) k → Refuses read_cause k k' f → Leads sound n t i own k k' (came.On (s.Closing b.point (next_of (step_fault f))))
-  look-refused b after g f k k' fits h = stopped read_cause k k' f b.point (read_tells k') h fits.asked fits.is.1.work.building.held fits.is.0
+  pub look-refused : (b : Build) (after : Option (List ℕ)) (g : Gathered) (f : StepFault) (k k' : Known) → FitsState sound n t i own (s.Reading b after g) k → Refuses (read_cause sound) k k' f → Leads sound n t i own k k' (came.On (s.Closing b.point (next_of (step_fault f))))
+  look-refused b after g f k k' fits h = stopped (read_cause sound) k k' f b.point (read_tells k') h fits.asked fits.is.1.work.building.held fits.is.0
 
   pub base-refused : (b : Build) (xs : List BaseRow) (more : List (List BaseRow)) (last : Option (List ℕ)) (f : StepFault) (k k' : Known) → FitsState sound n t i own (s.Basing b xs more last) k → Refuses base_cause k k' f → Leads sound n t i own k k' (came.On (s.Closing b.point (next_of (step_fault f))))
   base-refused b xs more last f k k' fits h = stopped base_cause k k' f b.point (base_tells k') h fits.asked fits.is.1.work.building.held fits.is.0
 
-  pub upkeep-refused : (b : Build) (xs : List BaseRow) (more : List (List BaseRow)) (last : Option (List ℕ)) (f : StepFault) (k k' : Known) → FitsState sound n t i own (s.Settling b xs more last) k → Refuses upkeep_cause k k' f → Leads sound n t i own k k' (came.On (s.Closing b.point (next_of (step_fault f))))
-  upkeep-refused b xs more last f k k' fits h = stopped upkeep_cause k k' f b.point (upkeep_tells k') h fits.asked fits.is.1.work.building.held fits.is.0
+  pub upkeep-refused : (b : Build) (xs : List BaseRow) (more : List (List BaseRow)) (last : Option (List ℕ)) (f : StepFault) (k k' : Known) → FitsState sound n t i own (s.Settling b xs more last) k → Refuses (upkeep_cause sound) k k' f → Leads sound n t i own k k' (came.On (s.Closing b.point (next_of (step_fault f))))
+  upkeep-refused b xs more last f k k' fits h = stopped (upkeep_cause sound) k k' f b.point (upkeep_tells k') h fits.asked fits.is.1.work.building.held fits.is.0
 
   -- 5. Base versions
 

@@ -123,7 +123,7 @@ BuildFaultIs sound t i (why.Limit which count) k = rebuilding_cause t i (step.Li
 BuildFaultIs sound t i (why.BelowHorizon horizon) k = TableStands k t × (horizon_of k.base t k.seen ≡ horizon)
 BuildFaultIs sound t i why.ReadFault k = (call : ℕ) × HasMade k (act.Missed call)
 BuildFaultIs sound t i why.WriteFault k = (call : ℕ) × HasMade k (act.Shut call)
-BuildFaultIs sound t i (why.Damaged file place) k = IsDamagedAt k file place
+BuildFaultIs sound t i (why.Damaged file place) k = IsDamagedAt sound k file place
 BuildFaultIs sound t i (why.Closed call) k = ClosedBy call k
 BuildFaultIs sound t i why.Memory k = Unit {0}
 

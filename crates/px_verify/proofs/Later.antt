@@ -86,14 +86,14 @@ later-none t i k k' h j =
       none = j.none;
     }
 
-pub later-fault : (p : Point) (t : TableId) (i : IndexId) (f : ReportFault) (k k' : Known) → Later k k' → FaultIs t i f k → FaultIs t i f k'
-later-fault p t i fault.NoTable k k' h j = j
-later-fault p t i fault.NoIndex k k' h j = later-none t i k k' h j
-later-fault p t i (fault.BelowHorizon n) k k' h j = j
-later-fault p t i fault.ReadFault k k' h j = scan-later (every_row p) query.ReadFault k k' h j
-later-fault p t i (fault.Damaged file place) k k' h j = scan-later (every_row p) (query.Damaged file place) k k' h j
-later-fault p t i (fault.Closed call) k k' h j = scan-later (every_row p) (query.Closed call) k k' h j
-later-fault p t i fault.Memory k k' h j = tt
+pub later-fault : (sound : Type 0) (p : Point) (t : TableId) (i : IndexId) (f : ReportFault) (k k' : Known) → Later k k' → FaultIs sound t i f k → FaultIs sound t i f k'
+later-fault sound p t i fault.NoTable k k' h j = j
+later-fault sound p t i fault.NoIndex k k' h j = later-none t i k k' h j
+later-fault sound p t i (fault.BelowHorizon n) k k' h j = j
+later-fault sound p t i fault.ReadFault k k' h j = scan-later sound (every_row p) query.ReadFault k k' h j
+later-fault sound p t i (fault.Damaged file place) k k' h j = scan-later sound (every_row p) (query.Damaged file place) k k' h j
+later-fault sound p t i (fault.Closed call) k k' h j = scan-later sound (every_row p) (query.Closed call) k k' h j
+later-fault sound p t i fault.Memory k k' h j = tt
 
 pub made-later : (m : ℕ) (f : ReportFault) (k k' : Known) → m ≤ length k.seen → Later k k' → ReportFaultSince m f k → ReportFaultSince m f k'
 made-later m fault.ReadFault k k' le g j = scan-made m query.ReadFault k k' le g j
@@ -103,25 +103,25 @@ pub made-earlier : (n m : ℕ) (f : ReportFault) (k : Known) → n ≤ m → Rep
 made-earlier n m fault.ReadFault k le j = scan-earlier n m query.ReadFault k le j
 made-earlier n m f k le j = tt
 
-pub fault-in : (t : TableId) (i : IndexId) (f : ReportFault) (k : Known) → FaultIs t i f k → ReportFaultIs t i f k
-fault-in t i fault.NoTable k j = absurd j
-fault-in t i (fault.BelowHorizon h) k j = absurd j
-fault-in t i f k j = j
+pub fault-in : (sound : Type 0) (t : TableId) (i : IndexId) (f : ReportFault) (k : Known) → FaultIs sound t i f k → ReportFaultIs sound t i f k
+fault-in sound t i fault.NoTable k j = absurd j
+fault-in sound t i (fault.BelowHorizon h) k j = absurd j
+fault-in sound t i f k j = j
 
 -- a refusal of a look
-pub record Ends (t : TableId) (i : IndexId) (k k' : Known) (f : StepFault) : Type 0 where
+pub record Ends (sound : Type 0) (t : TableId) (i : IndexId) (k k' : Known) (f : StepFault) : Type 0 where
   pub ends : IsLookFault f
   pub quiet : Quiet k k'
-  pub told : FaultIs t i (fault_of f) k'
+  pub told : FaultIs sound t i (fault_of f) k'
   pub made : (m : ℕ) → m ≤ length k.seen → ReportFaultSince m (fault_of f) k'
 
-pub look-ends : (p : Point) (t : TableId) (i : IndexId) (k k' : Known) (f : StepFault) → Refuses read_cause k k' f → Ends t i k k' f
-look-ends p t i k k' step.ReadFault h = let e = read_ends (every_row p) k k' step.ReadFault h in record { ends = tt; quiet = e.quiet; told = e.told; made = e.made }
-look-ends p t i k k' step.WriteFault h = absurd h.0
-look-ends p t i k k' (step.Damaged file place) h = let e = read_ends (every_row p) k k' (step.Damaged file place) h in record { ends = tt; quiet = e.quiet; told = e.told; made = λ m le. tt }
-look-ends p t i k k' (step.Closed call) h = let e = read_ends (every_row p) k k' (step.Closed call) h in record { ends = tt; quiet = e.quiet; told = e.told; made = λ m le. tt }
-look-ends p t i k k' step.Memory h = let e = read_ends (every_row p) k k' step.Memory h in record { ends = tt; quiet = e.quiet; told = tt; made = λ m le. tt }
-look-ends p t i k k' f h = absurd h.0
+pub look-ends : (sound : Type 0) (p : Point) (t : TableId) (i : IndexId) (k k' : Known) (f : StepFault) → Refuses (read_cause sound) k k' f → Ends sound t i k k' f
+look-ends sound p t i k k' step.ReadFault h = let e = read_ends sound (every_row p) k k' step.ReadFault h in record { ends = tt; quiet = e.quiet; told = e.told; made = e.made }
+look-ends sound p t i k k' step.WriteFault h = absurd h.0
+look-ends sound p t i k k' (step.Damaged file place) h = let e = read_ends sound (every_row p) k k' (step.Damaged file place) h in record { ends = tt; quiet = e.quiet; told = e.told; made = λ m le. tt }
+look-ends sound p t i k k' (step.Closed call) h = let e = read_ends sound (every_row p) k k' (step.Closed call) h in record { ends = tt; quiet = e.quiet; told = e.told; made = λ m le. tt }
+look-ends sound p t i k k' step.Memory h = let e = read_ends sound (every_row p) k k' step.Memory h in record { ends = tt; quiet = e.quiet; told = tt; made = λ m le. tt }
+look-ends sound p t i k k' f h = absurd h.0
 
 -- 3. States
 
@@ -137,7 +137,7 @@ fits-grown sound t i (state.Closing p (Ok lists)) k k' g f =
     (grown-reading k k' (every_row p) (Some greatest_scn) p g f.0, (f.1.0, f.1.1, later-entries sound k k' p l f.1.0 lists.rows.items f.1.2, later-versions sound k k' p l i f.1.0 lists.versions.items f.1.3))
 fits-grown sound t i (state.Closing p (Err e)) k k' g f =
     let l = later-grown k k' g in
-    (grown-reading k k' (every_row p) (Some greatest_scn) p g f.0, (f.1.0, later-fault p t i e k k' l f.1.1, made-later p.found.at e k k' f.0.point.within l f.1.2))
+    (grown-reading k k' (every_row p) (Some greatest_scn) p g f.0, (f.1.0, later-fault sound p t i e k k' l f.1.1, made-later p.found.at e k k' f.0.point.within l f.1.2))
 fits-grown sound t i state.Over k k' g f = tt
 
 pub fits-kept : (sound : Type 0) (t : TableId) (i : IndexId) (s : ReportState) (k k' : Known) → TimePasses k k' → FitsReport sound t i s k → FitsReport sound t i s k'

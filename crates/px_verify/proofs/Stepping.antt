@@ -57,7 +57,7 @@ use Rattle.px_verify.proofs.Looked.{Part, all-parts, past-all}
 
 -- 1. States that go on from a point
 
-pub goes-failed : (sound : Type 0) (k : Known) (t : TableId) (i : IndexId) (p : Point) (old : ReportState) (f : ReportFault) → IsOpenPoint k p → p.table ≡ t → FaultIs t i f k → ReportFaultSince p.found.at f k → ReportMovesOn old (state.Closing p (Err f)) → GoesOn sound k t i p old (state.Closing p (Err f))
+pub goes-failed : (sound : Type 0) (k : Known) (t : TableId) (i : IndexId) (p : Point) (old : ReportState) (f : ReportFault) → IsOpenPoint k p → p.table ≡ t → FaultIs sound t i f k → ReportFaultSince p.found.at f k → ReportMovesOn old (state.Closing p (Err f)) → GoesOn sound k t i p old (state.Closing p (Err f))
 goes-failed sound k t i p old f h table told made moves = record { fits = (h, (table, told, made)); going = tt; moves = moves; opened_is = refl; since = λ n le. le }
 
 pub goes-reading : (sound : Type 0) (k : Known) (i : IndexId) (x : Reading) → IsOpenPoint k x.point → index_of_found x.point.found i.0 ≡ Some x.index → x.path ≡ index_path x.point.found.table x.index → x.rows.items ≡ [] → x.versions.items ≡ [] → GoesOn sound k x.point.table i x.point state.Opening (state.Rows x None)
@@ -233,7 +233,7 @@ steps sound k k' t i p old new h was since g = record {
 }
 
 -- a refused look ends the reading
-pub fails : (sound : Type 0) (k k' : Known) (t : TableId) (i : IndexId) (p : Point) (old new : ReportState) (f : ReportFault) → new ≡ state.Closing p (Err f) → IsOpenPoint k p → p.table ≡ t → opened_by_report old ≡ opening p → ((n : ℕ) → IsReportSince n old k → n ≤ p.found.at) → Quiet k k' → FaultIs t i f k' → ReportFaultSince p.found.at f k' → ReportMovesOn old (state.Closing p (Err f)) → ReportTurns sound t i old k new k' turn.Stepped
+pub fails : (sound : Type 0) (k k' : Known) (t : TableId) (i : IndexId) (p : Point) (old new : ReportState) (f : ReportFault) → new ≡ state.Closing p (Err f) → IsOpenPoint k p → p.table ≡ t → opened_by_report old ≡ opening p → ((n : ℕ) → IsReportSince n old k → n ≤ p.found.at) → Quiet k k' → FaultIs sound t i f k' → ReportFaultSince p.found.at f k' → ReportMovesOn old (state.Closing p (Err f)) → ReportTurns sound t i old k new k' turn.Stepped
 fails sound k k' t i p old new f is h table was since quiet told made moves =
     steps sound k k' t i p old new quiet was since (goes-as sound k' t i p old new (state.Closing p (Err f)) is (goes-failed sound k' t i p old f (grown-reading k k' (every_row p) (Some greatest_scn) p (grown-quiet k k' quiet) h) table told made moves))
 
@@ -253,7 +253,7 @@ opens sound k k' t i p new d g =
       since = λ n h. g.since n (let l = longer k k' n (later-ran k k' _ ran) h in let a = d.found.at in omega arith);
     }
 
-pub unopened : (sound : Type 0) (k k' : Known) (t : TableId) (i : IndexId) (f : ReportFault) → ReportFaultIs t i f k' → Sees k k' → ((n : ℕ) → ReportFaultSince n f k') → ReportTurns sound t i state.Opening k state.Over k' (turn.Over (Err f))
+pub unopened : (sound : Type 0) (k k' : Known) (t : TableId) (i : IndexId) (f : ReportFault) → ReportFaultIs sound t i f k' → Sees k k' → ((n : ℕ) → ReportFaultSince n f k') → ReportTurns sound t i state.Opening k state.Over k' (turn.Over (Err f))
 unopened sound k k' t i f told h made = record {
   acts = [];
   ran = ran-sees k k' h;
@@ -360,7 +360,7 @@ closes-ok sound k k' t i p lists a h adds compared first last =
       since = λ n s. (omega arith);
     }
 
-closes-with : (sound : Type 0) (k k' : Known) (t : TableId) (i : IndexId) (p : Point) (old : ReportState) (f : ReportFault) → opened_by_report old ≡ opening p → IsOpenPoint k p → p.table ≡ t → Adds k k' (act.Released p.table p.stamp) → FaultIs t i f k' → ((n : ℕ) → IsReportSince n old k → ReportFaultSince n f k') → ReportTurns sound t i old k state.Over k' (turn.Over (Err f))
+closes-with : (sound : Type 0) (k k' : Known) (t : TableId) (i : IndexId) (p : Point) (old : ReportState) (f : ReportFault) → opened_by_report old ≡ opening p → IsOpenPoint k p → p.table ≡ t → Adds k k' (act.Released p.table p.stamp) → FaultIs sound t i f k' → ((n : ℕ) → IsReportSince n old k → ReportFaultSince n f k') → ReportTurns sound t i old k state.Over k' (turn.Over (Err f))
 closes-with sound k k' t i p old f was h table adds told made =
     let ran = ran-adds k k' (act.Released p.table p.stamp) adds in
     let point : IsReportPoint k'.base k'.seen p = later-point k k' (every_row p) (Some greatest_scn) p (later-ran k k' _ ran) h.point in
@@ -371,7 +371,7 @@ closes-with sound k k' t i p old f was h table adds told made =
       told = (
         refl,
         (
-          fault-in t i f k' told,
+          fault-in sound t i f k' told,
           inr (subst (λ (l : List Act). ReportOpensAndCloses t (l ++ act.Released p.table p.stamp ∷ [])) (sym was) (closed-acts k'.base k'.seen t p point table)),
         ),
       );
@@ -381,7 +381,7 @@ closes-with sound k k' t i p old f was h table adds told made =
 pub closes-err : (sound : Type 0) (k k' : Known) (t : TableId) (i : IndexId) (p : Point) (f : ReportFault) → FitsReport sound t i (state.Closing p (Err f)) k → Adds k k' (act.Released p.table p.stamp) → ReportTurns sound t i (state.Closing p (Err f)) k state.Over k' (turn.Over (Err f))
 closes-err sound k k' t i p f h adds =
     let l = later-ran k k' _ (ran-adds k k' (act.Released p.table p.stamp) adds) in
-    closes-with sound k k' t i p (state.Closing p (Err f)) f refl h.0 h.1.0 adds (later-fault p t i f k k' l h.1.1) (λ n s. made-earlier n p.found.at f k' s (made-later p.found.at f k k' h.0.point.within l h.1.2))
+    closes-with sound k k' t i p (state.Closing p (Err f)) f refl h.0 h.1.0 adds (later-fault sound p t i f k k' l h.1.1) (λ n s. made-earlier n p.found.at f k' s (made-later p.found.at f k k' h.0.point.within l h.1.2))
 
 -- no memory was found to compare the lists
 pub closes-full : (sound : Type 0) (k k' : Known) (t : TableId) (i : IndexId) (p : Point) (lists : Lists) (f : ReportFault) → f ≡ fault.Memory → FitsReport sound t i (state.Closing p (Ok lists)) k → Adds k k' (act.Released p.table p.stamp) → ReportTurns sound t i (state.Closing p (Ok lists)) k state.Over k' (turn.Over (Err f))

@@ -38,20 +38,20 @@ pub record HasNoIndex (t : TableId) (i : IndexId) (k : Known) : Type 0 where
   pub none : index_of_found found i.0 ≡ None
 
 -- what tells a fault of a report whose point was opened, in what the seat has then seen
-abbrev pub FaultIs : TableId → IndexId → ReportFault → Known → Type 0
-FaultIs t i fault.NoTable k = ⊥
-FaultIs t i fault.NoIndex k = HasNoIndex t i k
-FaultIs t i (fault.BelowHorizon h) k = ⊥
-FaultIs t i fault.ReadFault k = (call : ℕ) × HasMade k (act.Missed call)
-FaultIs t i (fault.Damaged file place) k = IsDamagedAt k file place
-FaultIs t i (fault.Closed call) k = ClosedBy call k
-FaultIs t i fault.Memory k = Unit {0}
+abbrev pub FaultIs : Type 0 → TableId → IndexId → ReportFault → Known → Type 0
+FaultIs sound t i fault.NoTable k = ⊥
+FaultIs sound t i fault.NoIndex k = HasNoIndex t i k
+FaultIs sound t i (fault.BelowHorizon h) k = ⊥
+FaultIs sound t i fault.ReadFault k = (call : ℕ) × HasMade k (act.Missed call)
+FaultIs sound t i (fault.Damaged file place) k = IsDamagedAt sound k file place
+FaultIs sound t i (fault.Closed call) k = ClosedBy call k
+FaultIs sound t i fault.Memory k = Unit {0}
 
 -- and of a report, whose point may be refused
-abbrev pub ReportFaultIs : TableId → IndexId → ReportFault → Known → Type 0
-ReportFaultIs t i fault.NoTable k = LacksTable k t.0
-ReportFaultIs t i (fault.BelowHorizon h) k = TableStands k t.0 × (horizon_of k.base t.0 k.seen ≡ h) × (greatest_scn - 1 < h)
-ReportFaultIs t i f k = FaultIs t i f k
+abbrev pub ReportFaultIs : Type 0 → TableId → IndexId → ReportFault → Known → Type 0
+ReportFaultIs sound t i fault.NoTable k = LacksTable k t.0
+ReportFaultIs sound t i (fault.BelowHorizon h) k = TableStands k t.0 × (horizon_of k.base t.0 k.seen ≡ h) × (greatest_scn - 1 < h)
+ReportFaultIs sound t i f k = FaultIs sound t i f k
 
 -- the entry that tells a failed device call is one of the seat's own after the first n
 abbrev pub ReportFaultSince : ℕ → ReportFault → Known → Type 0

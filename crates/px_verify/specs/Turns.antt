@@ -66,7 +66,7 @@ pub record IsUnderWay (k : Known) (t : TableId) (i : IndexId) (x : Reading) : Ty
 -- how the reading ended, whose point is still to be closed
 abbrev pub HasEnded : Type 0 → Known → TableId → IndexId → Point → Result Lists ReportFault → Type 0
 HasEnded sound k t i p (Ok lists) = (x : Index) × HasIndex t i p x × AreEntries sound k p x lists.rows.items × AreVersions sound k p i x lists.versions.items
-HasEnded sound k t i p (Err f) = (p.table ≡ t) × FaultIs t i f k × ReportFaultSince p.found.at f k
+HasEnded sound k t i p (Err f) = (p.table ≡ t) × FaultIs sound t i f k × ReportFaultSince p.found.at f k
 
 -- The state is as the trail tells, and what is kept is what looks found. Others' entries keep this
 abbrev pub FitsReport : Type 0 → TableId → IndexId → ReportState → Known → Type 0
@@ -132,7 +132,7 @@ ReportOpensAndCloses t acts = (stamp : ℕ) × (acts ≡ act.Opened t stamp true
 -- What a report came to, where `own` is what the seat began, ended, opened, closed and defined for it
 abbrev pub IsReportOutcome : Type 0 → TableId → IndexId → List Act → Known → Result Reported ReportFault → Type 0
 IsReportOutcome sound t i own k (Ok a) = IsReport sound k t i a × (own ≡ report_point_acts k.base k.seen t a.first) × (a.first ≤ a.last) × (a.last ≡ length k.seen)
-IsReportOutcome sound t i own k (Err f) = ReportFaultIs t i f k × ((own ≡ []) ⊎ ReportOpensAndCloses t own)
+IsReportOutcome sound t i own k (Err f) = ReportFaultIs sound t i f k × ((own ≡ []) ⊎ ReportOpensAndCloses t own)
 
 -- 4. Steps
 

@@ -209,14 +209,14 @@ module _ (sound : Type 0) (n : ℕ) (t : TableId) (i : IndexId) (v : VerifyKind)
 
     pub define-refused : (e : DefineFault) → define.DefinitionTurns sound old.definition old.state k new.state k' (dt.Over (Err e)) → VerificationTurns sound n t i v own (state.Defining old) k k' x state.Over (turn.Over (Err (record { done = x; fault = definition_fault e })))
     define-refused e z =
-        let told = subst (λ (y : Definition). define.IsDefinitionOutcome y (outline z.acts) k' (Err e)) f.is.1.defining.0 z.told.1 in
-        let why : DefinitionRefused (to_rebuild n x) t i (f.current ++ outline z.acts) k' (definition_fault e) =
-        record { why = e; fault = refl; outcome = subst (λ (l : List Act). define.IsDefinitionOutcome (d.Rebuilding t i) l k' (Err e)) (sym (alone z.acts)) told; since = z.since (to_rebuild n x) f.is.1.from } in
+        let told = subst (λ (y : Definition). define.IsDefinitionOutcome sound y (outline z.acts) k' (Err e)) f.is.1.defining.0 z.told.1 in
+        let why : DefinitionRefused sound (to_rebuild n x) t i (f.current ++ outline z.acts) k' (definition_fault e) =
+        record { why = e; fault = refl; outcome = subst (λ (l : List Act). define.IsDefinitionOutcome sound (d.Rebuilding t i) l k' (Err e)) (sym (alone z.acts)) told; since = z.since (to_rebuild n x) f.is.1.from } in
         record { acts = z.acts; ran = z.ran; told = (refl, ends (state.Defining old) z.acts (definition_fault e) f z.ran (inr (inl (f.is.0, inl why)))) }
 
     pub define-then : (m : Made) (run : BuildRun) → build.IsBuildNew t i run → define.DefinitionTurns sound old.definition old.state k new.state k' (dt.Over (Ok m)) → VerificationTurns sound n t i v own (state.Defining old) k k' x (state.Building run) turn.Stepped
     define-then m run fresh z =
-        let told = subst (λ (y : Definition). define.IsDefinitionOutcome y (outline z.acts) k' (Ok m)) f.is.1.defining.0 z.told.1 in
+        let told = subst (λ (y : Definition). define.HasDefined y (outline z.acts) k' m) f.is.1.defining.0 z.told.1 in
         let begun : HasBegunRebuilding (to_rebuild n x) t i (outline z.acts) k' m = record { was = k'; past = past-same k'; outcome = told; from = z.since (to_rebuild n x) f.is.1.from } in
         let drawn = may-later t i v k k' (past-ran k k' z.acts z.ran) f.drawn f.is.0.has in
         let low : m.at ≤ length k'.seen = (let e = told.at in omega (arith, e)) in

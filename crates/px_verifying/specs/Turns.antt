@@ -46,7 +46,7 @@ pub record HasReported (sound : Type 0) (n : ℕ) (t : TableId) (i : IndexId) (o
 pub record HasBegunRebuilding (n : ℕ) (t : TableId) (i : IndexId) (own : List Act) (k : Known) (again : Made) : Type 0 where
   pub was : Known
   pub past : IsPast was k
-  pub outcome : define.IsDefinitionOutcome (d.Rebuilding t i) own was (Ok again)
+  pub outcome : define.HasDefined (d.Rebuilding t i) own was again
   pub from : n ≤ again.at
 
 -- that definition, and then a build of the index, which stood active
@@ -102,10 +102,10 @@ pub record ReportRefused (sound : Type 0) (n : ℕ) (t : TableId) (i : IndexId) 
   pub outcome : report.IsReportOutcome sound t i own k (Err why)
   pub since : ReportFaultSince n why k
 
-pub record DefinitionRefused (n : ℕ) (t : TableId) (i : IndexId) (own : List Act) (k : Known) (f : VerifyFault) : Type 0 where
+pub record DefinitionRefused (sound : Type 0) (n : ℕ) (t : TableId) (i : IndexId) (own : List Act) (k : Known) (f : VerifyFault) : Type 0 where
   pub why : DefineFault
   pub fault : f ≡ definition_fault why
-  pub outcome : define.IsDefinitionOutcome (d.Rebuilding t i) own k (Err why)
+  pub outcome : define.IsDefinitionOutcome sound (d.Rebuilding t i) own k (Err why)
   pub since : define.DefinitionFaultSince n why k
 
 pub record BuildRefused (sound : Type 0) (n : ℕ) (t : TableId) (i : IndexId) (own : List Act) (k : Known) (f : VerifyFault) : Type 0 where
@@ -122,7 +122,7 @@ pub record BuildRefused (sound : Type 0) (n : ℕ) (t : TableId) (i : IndexId) (
 abbrev pub WasPartRefused : Type 0 → ℕ → TableId → IndexId → VerifyKind → List Act → Known → Reports → VerifyFault → Type 0
 WasPartRefused sound n t i v own k x f =
     (IsAtFirst v x × ReportRefused sound n t i own k f)
-    ⊎ ((IsAtRebuilding v x × (DefinitionRefused (to_rebuild n x) t i own k f ⊎ BuildRefused sound (to_rebuild n x) t i own k f))
+    ⊎ ((IsAtRebuilding v x × (DefinitionRefused sound (to_rebuild n x) t i own k f ⊎ BuildRefused sound (to_rebuild n x) t i own k f))
     ⊎ (IsAtLast v x × ReportRefused sound (to_report_again n x) t i own k f))
 
 pub record IsUnfinished (sound : Type 0) (n : ℕ) (t : TableId) (i : IndexId) (v : VerifyKind) (own : List Act) (k : Known) (u : Unfinished) : Type 0 where

@@ -10,18 +10,18 @@ pub consult-requires-clause-doubt : goal.consult-requires-clause-doubt
 consult-requires-clause-doubt g c = turning.can-consult g.S.Steps.sound _ _ _ _ _ _ _ _ c.requires.0
 
 pub fault_of-requires : goal.fault_of-requires
-fault_of-requires g c = (quieting.read_ends (g.Q.Asks.asked c.args.query.now) _ _ c.in-Err.f c.in-Err.ensures.refused).ends
+fault_of-requires g c = (quieting.read_ends g.S.Steps.sound (g.Q.Asks.asked c.args.query.now) _ _ c.in-Err.f c.in-Err.ensures.refused).ends
 
 pub returns-in-Ok-keep_held-clause-turns : goal.returns-in-Ok-keep_held-clause-turns
 returns-in-Ok-keep_held-clause-turns g c = turning.consults g.S.Steps.sound _ _ (g.Q.Asks.asked c.args.query.now) c.args.scn c.args.x _ c.args.rest c.args.doubt _ _ refl refl c.requires c.in-Ok.ensures.ok c.in-Ok-keep_held.ensures.ok
 
 pub returns-in-Err-keep_held-clause-turns : goal.returns-in-Err-keep_held-clause-turns
 returns-in-Err-keep_held-clause-turns g c =
-    turning.fails g.S.Steps.sound _ _ (g.Q.Asks.asked c.args.query.now) c.args.scn c.args.x.point _ _ _ c.failed.ensures c.requires.0.reading refl (λ n le. le) (quieting.quiet-sees _ _ c.in-Ok.ensures.ok.finds.sees) (turning.no-memory _ _ _ c.in-Err-keep_held.ensures.err) (turning.no-memory-made _ _ _ c.in-Err-keep_held.ensures.err) tt
+    turning.fails g.S.Steps.sound _ _ (g.Q.Asks.asked c.args.query.now) c.args.scn c.args.x.point _ _ _ c.failed.ensures c.requires.0.reading refl (λ n le. le) (quieting.quiet-sees _ _ c.in-Ok.ensures.ok.finds.sees) (turning.no-memory g.S.Steps.sound _ _ _ c.in-Err-keep_held.ensures.err) (turning.no-memory-made _ _ _ c.in-Err-keep_held.ensures.err) tt
 
 pub returns-in-Err-clause-turns : goal.returns-in-Err-clause-turns
 returns-in-Err-clause-turns g c =
-    let e = quieting.read_ends (g.Q.Asks.asked c.args.query.now) _ _ c.in-Err.f c.in-Err.ensures.refused in
+    let e = quieting.read_ends g.S.Steps.sound (g.Q.Asks.asked c.args.query.now) _ _ c.in-Err.f c.in-Err.ensures.refused in
     turning.fails g.S.Steps.sound _ _ (g.Q.Asks.asked c.args.query.now) c.args.scn c.args.x.point _ _ _ c.failed-in-Err.ensures c.requires.0.reading refl (λ n le. le) e.quiet (rw c.fault_of.ensures e.told) (rw c.fault_of.ensures (e.made c.args.x.point.found.at c.requires.0.reading.point.within)) tt
 
 pub returns-in-Ok-keep_held-clause-spends : goal.returns-in-Ok-keep_held-clause-spends

@@ -10,12 +10,12 @@ use Rattle.px_scan.proofs.machine.fix.Goals as goal
 pub fault_of-requires : goal.fault_of-requires
 fault_of-requires g c =
     let no : is_busy c.in-Err.f ≡ false = cc in
-    (quieting.fix_ends (g.Q.Asks.asked c.args.query.now) _ _ c.in-Err.f c.in-Err.ensures.refused no).ends
+    (quieting.fix_ends g.S.Steps.sound (g.Q.Asks.asked c.args.query.now) _ _ c.in-Err.f c.in-Err.ensures.refused no).ends
 
 pub returns-then-is_busy-clause-turns : goal.returns-then-is_busy-clause-turns
 returns-then-is_busy-clause-turns g c =
     let yes : is_busy c.in-Err.f ≡ true = cc in
-    let quiet = quieting.fix_busy _ _ c.in-Err.f c.in-Err.ensures.refused yes in
+    let quiet = quieting.fix_busy g.S.Steps.sound _ _ c.in-Err.f c.in-Err.ensures.refused yes in
     turning.steps g.S.Steps.sound _ _ (g.Q.Asks.asked c.args.query.now) c.args.scn c.args.x.point _ _ quiet refl (λ n le. le)
     (turning.goes-settling g.S.Steps.sound _ _ _ c.args.x c.args.rest c.args.doubt (turning.grown-scanning g.S.Steps.sound _ _ _ _ _ _ _ _ (quieting.grown-quiet _ _ quiet) c.requires.0) c.requires.1) refl
 
@@ -28,7 +28,7 @@ returns-in-Ok-clause-turns g c =
 pub returns-else-is_busy-clause-turns : goal.returns-else-is_busy-clause-turns
 returns-else-is_busy-clause-turns g c =
     let no : is_busy c.in-Err.f ≡ false = cc in
-    let e = quieting.fix_ends (g.Q.Asks.asked c.args.query.now) _ _ c.in-Err.f c.in-Err.ensures.refused no in
+    let e = quieting.fix_ends g.S.Steps.sound (g.Q.Asks.asked c.args.query.now) _ _ c.in-Err.f c.in-Err.ensures.refused no in
     turning.fails g.S.Steps.sound _ _ (g.Q.Asks.asked c.args.query.now) c.args.scn c.args.x.point _ _ _ c.failed.ensures c.requires.0.reading refl (λ n le. le) e.quiet (rw c.fault_of.ensures e.told) (rw c.fault_of.ensures (e.made c.args.x.point.found.at c.requires.0.reading.point.within)) tt
 
 pub returns-then-is_busy-clause-spends : goal.returns-then-is_busy-clause-spends
@@ -52,7 +52,7 @@ returns-else-is_busy-clause-looks g c = λ alone. looking.looks_one g.S.Steps.so
 pub returns-then-is_busy-clause-doubts : goal.returns-then-is_busy-clause-doubts
 returns-then-is_busy-clause-doubts g c = λ alone sound.
     let yes : is_busy c.in-Err.f ≡ true = cc in
-    mending.refused_doubt _ _ _ _ c.args.x c.args.rest c.args.doubt c.in-Err.f alone c.requires.0.reading.is_open yes c.in-Err.ensures.refused (c.in-Err.ensures.still alone)
+    mending.refused_doubt g.S.Steps.sound _ _ _ _ c.args.x c.args.rest c.args.doubt c.in-Err.f alone c.requires.0.reading.is_open yes c.in-Err.ensures.refused (c.in-Err.ensures.still alone)
 
 pub returns-in-Ok-clause-doubts : goal.returns-in-Ok-clause-doubts
 returns-in-Ok-clause-doubts g c = λ alone sound.

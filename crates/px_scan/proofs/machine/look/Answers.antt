@@ -8,7 +8,7 @@ use Rattle.px_scan.proofs.Mending as mending
 use Rattle.px_scan.proofs.machine.look.Goals as goal
 
 pub fault_of-requires : goal.fault_of-requires
-fault_of-requires g c = (quieting.read_ends (g.Q.Asks.asked c.args.query.now) _ _ c.in-Err.f c.in-Err.ensures.refused).ends
+fault_of-requires g c = (quieting.read_ends g.S.Steps.sound (g.Q.Asks.asked c.args.query.now) _ _ c.in-Err.f c.in-Err.ensures.refused).ends
 
 pub returns-in-Ok-clause-turns : goal.returns-in-Ok-clause-turns
 returns-in-Ok-clause-turns g c =
@@ -18,7 +18,7 @@ returns-in-Ok-clause-turns g c =
 
 pub returns-clause-turns : goal.returns-clause-turns
 returns-clause-turns g c =
-    let e = quieting.read_ends (g.Q.Asks.asked c.args.query.now) _ _ c.in-Err.f c.in-Err.ensures.refused in
+    let e = quieting.read_ends g.S.Steps.sound (g.Q.Asks.asked c.args.query.now) _ _ c.in-Err.f c.in-Err.ensures.refused in
     turning.fails g.S.Steps.sound _ _ (g.Q.Asks.asked c.args.query.now) c.args.scn c.args.x.point _ _ _ c.failed.ensures c.requires.0 refl (λ n le. le) e.quiet (rw c.fault_of.ensures e.told) (rw c.fault_of.ensures (e.made c.args.x.point.found.at c.requires.0.point.within)) tt
 
 pub returns-in-Ok-clause-spends : goal.returns-in-Ok-clause-spends
@@ -35,7 +35,7 @@ returns-clause-looks g c = λ alone is. looking.looks_none g.S.Steps.sound _ _ _
 
 pub returns-in-Ok-clause-doubts : goal.returns-in-Ok-clause-doubts
 returns-in-Ok-clause-doubts g c = λ alone sound.
-    let d = c.in-Ok.ensures.doubts alone in
+    let d = c.in-Ok.ensures.doubts alone sound in
     let r = c.in-Ok.ensures.ok.shows.rising in
     record {
       kept = λ h. c.go_on.ensures.doubts (g.S.Steps.doubtful c.look.new.self) (g.S.Steps.known c.look.new.self) c.args.after (mending.rest_rising (g.S.Steps.doubtful c.look.new.self) c.args.x.point c.args.after _ c.rest_of.result.keys.items c.rest_of.ensures.keys r d);

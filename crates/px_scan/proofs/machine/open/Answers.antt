@@ -20,22 +20,22 @@ returns-in-Err-NotYet-clause-turns g c = rw c.in-Err-NotYet.field-0-is (turning.
 
 pub returns-in-Err-NoTable-clause-turns : goal.returns-in-Err-NoTable-clause-turns
 returns-in-Err-NoTable-clause-turns g c =
-    let r = turning.no-table _ _ (g.Q.Asks.asked c.args.query.now) c.table.result c.args.scn c.table.ensures (rw c.in-Err-NoTable.field-0-is at c.in-Err-NoTable.ensures.refused) in
+    let r = turning.no-table g.S.Steps.sound _ _ (g.Q.Asks.asked c.args.query.now) c.table.result c.args.scn c.table.ensures (rw c.in-Err-NoTable.field-0-is at c.in-Err-NoTable.ensures.refused) in
     turning.unopened g.S.Steps.sound _ _ (g.Q.Asks.asked c.args.query.now) c.args.scn _ _ r.0 r.1 (λ n. tt)
 
 pub returns-in-Err-BelowHorizon-clause-turns : goal.returns-in-Err-BelowHorizon-clause-turns
 returns-in-Err-BelowHorizon-clause-turns g c =
-    let r = turning.below-horizon _ _ (g.Q.Asks.asked c.args.query.now) c.table.result c.in-Err-BelowHorizon.horizon c.args.scn c.table.ensures (rw c.in-Err-BelowHorizon.field-0-is at c.in-Err-BelowHorizon.ensures.refused) in
+    let r = turning.below-horizon g.S.Steps.sound _ _ (g.Q.Asks.asked c.args.query.now) c.table.result c.in-Err-BelowHorizon.horizon c.args.scn c.table.ensures (rw c.in-Err-BelowHorizon.field-0-is at c.in-Err-BelowHorizon.ensures.refused) in
     rw c.in-Err-BelowHorizon.field-0-is (turning.unopened g.S.Steps.sound _ _ (g.Q.Asks.asked c.args.query.now) c.args.scn _ _ r.0 r.1 (λ n. tt))
 
 pub returns-in-Err-Closed-clause-turns : goal.returns-in-Err-Closed-clause-turns
 returns-in-Err-Closed-clause-turns g c =
-    let r = turning.open-closed _ _ (g.Q.Asks.asked c.args.query.now) c.table.result c.in-Err-Closed.call c.args.scn (rw c.in-Err-Closed.field-0-is at c.in-Err-Closed.ensures.refused) in
+    let r = turning.open-closed g.S.Steps.sound _ _ (g.Q.Asks.asked c.args.query.now) c.table.result c.in-Err-Closed.call c.args.scn (rw c.in-Err-Closed.field-0-is at c.in-Err-Closed.ensures.refused) in
     rw c.in-Err-Closed.field-0-is (turning.unopened g.S.Steps.sound _ _ (g.Q.Asks.asked c.args.query.now) c.args.scn _ _ r.0 r.1 (λ n. tt))
 
 pub returns-in-Err-Memory-clause-turns : goal.returns-in-Err-Memory-clause-turns
 returns-in-Err-Memory-clause-turns g c =
-    let r = turning.open-memory _ _ (g.Q.Asks.asked c.args.query.now) c.table.result c.args.scn (rw c.in-Err-Memory.field-0-is at c.in-Err-Memory.ensures.refused) in
+    let r = turning.open-memory g.S.Steps.sound _ _ (g.Q.Asks.asked c.args.query.now) c.table.result c.args.scn (rw c.in-Err-Memory.field-0-is at c.in-Err-Memory.ensures.refused) in
     turning.unopened g.S.Steps.sound _ _ (g.Q.Asks.asked c.args.query.now) c.args.scn _ _ r.0 r.1 (λ n. tt)
 
 pub returns-in-Ok-clause-spends : goal.returns-in-Ok-clause-spends

@@ -8,7 +8,7 @@ use Rattle.px_scan.proofs.Mending as mending
 use Rattle.px_scan.proofs.machine.settle.Goals as goal
 
 pub fault_of-requires : goal.fault_of-requires
-fault_of-requires g c = (quieting.work_ends (g.Q.Asks.asked c.args.query.now) _ _ c.in-Err.f c.in-Err.ensures.refused).ends
+fault_of-requires g c = (quieting.work_ends g.S.Steps.sound (g.Q.Asks.asked c.args.query.now) _ _ c.in-Err.f c.in-Err.ensures.refused).ends
 
 pub returns-in-Ok-Did-clause-turns : goal.returns-in-Ok-Did-clause-turns
 returns-in-Ok-Did-clause-turns g c =
@@ -24,7 +24,7 @@ returns-in-Ok-Idle-clause-turns g c =
 
 pub returns-in-Err-clause-turns : goal.returns-in-Err-clause-turns
 returns-in-Err-clause-turns g c =
-    let e = quieting.work_ends (g.Q.Asks.asked c.args.query.now) _ _ c.in-Err.f c.in-Err.ensures.refused in
+    let e = quieting.work_ends g.S.Steps.sound (g.Q.Asks.asked c.args.query.now) _ _ c.in-Err.f c.in-Err.ensures.refused in
     turning.fails g.S.Steps.sound _ _ (g.Q.Asks.asked c.args.query.now) c.args.scn c.args.x.point _ _ _ c.failed.ensures c.requires.0.reading refl (λ n le. le) e.quiet (rw c.fault_of.ensures e.told) (rw c.fault_of.ensures (e.made c.args.x.point.found.at c.requires.0.reading.point.within)) tt
 
 pub returns-in-Ok-Did-clause-spends : goal.returns-in-Ok-Did-clause-spends
@@ -47,13 +47,13 @@ returns-in-Err-clause-looks g c = λ alone. looking.looks_none g.S.Steps.sound _
 
 pub returns-in-Ok-Did-clause-doubts : goal.returns-in-Ok-Did-clause-doubts
 returns-in-Ok-Did-clause-doubts g c = λ alone sound. record {
-  kept = λ h. mending.settles_doubt _ _ _ _ c.args.x c.args.rest c.args.doubt _ alone c.requires.0.reading.is_open c.in-Ok-Did.ensures.ok (c.in-Ok-Did.ensures.still alone) h;
+  kept = λ h. mending.settles_doubt _ _ _ _ c.args.x c.args.rest c.args.doubt _ alone c.requires.0.reading.is_open c.in-Ok-Did.ensures.ok (c.in-Ok-Did.ensures.still alone sound) h;
   fixed = λ h. tt;
 }
 
 pub returns-in-Ok-Idle-clause-doubts : goal.returns-in-Ok-Idle-clause-doubts
 returns-in-Ok-Idle-clause-doubts g c = λ alone sound. record {
-  kept = λ h. mending.settles_doubt _ _ _ _ c.args.x c.args.rest c.args.doubt _ alone c.requires.0.reading.is_open c.in-Ok-Idle.ensures.ok (c.in-Ok-Idle.ensures.still alone) h;
+  kept = λ h. mending.settles_doubt _ _ _ _ c.args.x c.args.rest c.args.doubt _ alone c.requires.0.reading.is_open c.in-Ok-Idle.ensures.ok (c.in-Ok-Idle.ensures.still alone sound) h;
   fixed = λ h. tt;
 }
 

@@ -7,7 +7,7 @@ use Rattle.px_verify.proofs.Stepping as stepping
 use Rattle.px_verify.proofs.machine.look_at_rows.Goals as goal
 
 pub fault_of-requires : goal.fault_of-requires
-fault_of-requires g c = (look-ends c.args.x.point c.args.table c.args.index _ _ c.in-Err.f c.in-Err.ensures.refused).ends
+fault_of-requires g c = (look-ends g.S.Steps.sound c.args.x.point c.args.table c.args.index _ _ c.in-Err.f c.in-Err.ensures.refused).ends
 
 pub returns-in-Ok-clause-turns : goal.returns-in-Ok-clause-turns
 returns-in-Ok-clause-turns g c =
@@ -19,6 +19,6 @@ returns-in-Ok-clause-turns g c =
 
 pub returns-clause-turns : goal.returns-clause-turns
 returns-clause-turns g c =
-    let e = look-ends c.args.x.point c.args.table c.args.index _ _ c.in-Err.f c.in-Err.ensures.refused in
+    let e = look-ends g.S.Steps.sound c.args.x.point c.args.table c.args.index _ _ c.in-Err.f c.in-Err.ensures.refused in
     stepping.fails g.S.Steps.sound _ _ c.args.table c.args.index c.args.x.point _ _ _ c.failed.ensures c.requires.0.open_point c.requires.0.has.table refl (λ n le. le) e.quiet
     (rw c.fault_of.ensures e.told) (rw c.fault_of.ensures (e.made c.args.x.point.found.at c.requires.0.open_point.point.within)) tt

@@ -45,7 +45,7 @@ returns-clause-refused g c =
     me.is_seat.1 c.enter-guard.ensures.seen now c.act_as.ensures.known c.act_as.ensures.owned in
     let new = grows.knows g.S.Steps.known g.B.Based.base g.B.Based.damaged me.id (seen_by_seat me.seat) c.act_as.new.self c.fix-reply.new.self (seen_by_seat c.leave.new.self.1.0) e c.fix-reply.ensures.grew c.leave.ensures.seen in
     let old = mine me.id g.B.Based.base g.B.Based.damaged (seen_by_seat me.seat) in
-    subst (λ (k : Known). IfErr c.fix-reply.result (Refuses (fix_cause) old k)) (sym new) (grows.if_err _ _ c.fix-reply.result (λ f h. grows.refuses-shared (fix_cause) old (g.S.Steps.known c.act_as.new.self) (g.S.Steps.known c.fix-reply.new.self) f (shares.fix_shared) refl e.passes h) c.fix-reply.ensures.refused)
+    subst (λ (k : Known). IfErr c.fix-reply.result (Refuses (fix_cause g.S.Steps.sound) old k)) (sym new) (grows.if_err _ _ c.fix-reply.result (λ f h. grows.refuses-shared (fix_cause g.S.Steps.sound) old (g.S.Steps.known c.act_as.new.self) (g.S.Steps.known c.fix-reply.new.self) f (shares.fix_shared g.S.Steps.sound) refl e.passes h) c.fix-reply.ensures.refused)
 
 pub returns-clause-there : goal.returns-clause-there
 returns-clause-there g c = grows.if_ok _ _ c.fix-reply.result (λ x h alone. grows.not_alone alone) c.fix-reply.ensures.ok

@@ -54,7 +54,7 @@ returns-clause-refused g c =
     me.is_seat.1 c.enter-guard.ensures.seen now c.act_as.ensures.known c.act_as.ensures.owned in
     let new = grows.knows g.S.Steps.known g.B.Based.base g.B.Based.damaged me.id (seen_by_seat me.seat) c.act_as.new.self c.look-reply.new.self (seen_by_seat c.leave.new.self.1.0) e c.look-reply.ensures.grew c.leave.ensures.seen in
     let old = mine me.id g.B.Based.base g.B.Based.damaged (seen_by_seat me.seat) in
-    subst (λ (k : Known). IfErr c.look-reply.result (Refuses (read_cause) old k)) (sym new) (grows.if_err _ _ c.look-reply.result (λ f h. grows.refuses-shared (read_cause) old (g.S.Steps.known c.act_as.new.self) (g.S.Steps.known c.look-reply.new.self) f (shares.read_shared) refl e.passes h) c.look-reply.ensures.refused)
+    subst (λ (k : Known). IfErr c.look-reply.result (Refuses (read_cause g.S.Steps.sound) old k)) (sym new) (grows.if_err _ _ c.look-reply.result (λ f h. grows.refuses-shared (read_cause g.S.Steps.sound) old (g.S.Steps.known c.act_as.new.self) (g.S.Steps.known c.look-reply.new.self) f (shares.read_shared g.S.Steps.sound) refl e.passes h) c.look-reply.ensures.refused)
 
 pub returns-clause-looked_each : goal.returns-clause-looked_each
 returns-clause-looked_each g c = grows.if_ok _ _ c.look-reply.result (λ x h alone. grows.not_alone alone) c.look-reply.ensures.ok

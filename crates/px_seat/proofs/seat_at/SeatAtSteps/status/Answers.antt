@@ -45,4 +45,4 @@ returns-clause-refused g c =
     me.is_seat.1 c.enter-guard.ensures.seen now c.act_as.ensures.known c.act_as.ensures.owned in
     let new = grows.knows g.S.Steps.known g.B.Based.base g.B.Based.damaged me.id (seen_by_seat me.seat) c.act_as.new.self c.status-reply.new.self (seen_by_seat c.leave.new.self.1.0) e c.status-reply.ensures.grew c.leave.ensures.seen in
     let old = mine me.id g.B.Based.base g.B.Based.damaged (seen_by_seat me.seat) in
-    subst (λ (k : Known). IfErr c.status-reply.result (Refuses (status_cause c.args.table.0) old k)) (sym new) (grows.if_err _ _ c.status-reply.result (λ f h. grows.refuses-shared (status_cause c.args.table.0) old (g.S.Steps.known c.act_as.new.self) (g.S.Steps.known c.status-reply.new.self) f (shares.status_shared c.args.table.0) refl e.passes h) c.status-reply.ensures.refused)
+    subst (λ (k : Known). IfErr c.status-reply.result (Refuses (status_cause g.S.Steps.sound c.args.table.0) old k)) (sym new) (grows.if_err _ _ c.status-reply.result (λ f h. grows.refuses-shared (status_cause g.S.Steps.sound c.args.table.0) old (g.S.Steps.known c.act_as.new.self) (g.S.Steps.known c.status-reply.new.self) f (shares.status_shared g.S.Steps.sound c.args.table.0) refl e.passes h) c.status-reply.ensures.refused)

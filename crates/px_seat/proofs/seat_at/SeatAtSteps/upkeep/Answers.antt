@@ -45,7 +45,7 @@ returns-clause-refused g c =
     me.is_seat.1 c.enter-guard.ensures.seen now c.act_as.ensures.known c.act_as.ensures.owned in
     let new = grows.knows g.S.Steps.known g.B.Based.base g.B.Based.damaged me.id (seen_by_seat me.seat) c.act_as.new.self c.upkeep-reply.new.self (seen_by_seat c.leave.new.self.1.0) e c.upkeep-reply.ensures.grew c.leave.ensures.seen in
     let old = mine me.id g.B.Based.base g.B.Based.damaged (seen_by_seat me.seat) in
-    subst (λ (k : Known). IfErr c.upkeep-reply.result (Refuses (upkeep_cause) old k)) (sym new) (grows.if_err _ _ c.upkeep-reply.result (λ f h. grows.refuses-shared (upkeep_cause) old (g.S.Steps.known c.act_as.new.self) (g.S.Steps.known c.upkeep-reply.new.self) f (shares.upkeep_shared) refl e.passes h) c.upkeep-reply.ensures.refused)
+    subst (λ (k : Known). IfErr c.upkeep-reply.result (Refuses (upkeep_cause g.S.Steps.sound) old k)) (sym new) (grows.if_err _ _ c.upkeep-reply.result (λ f h. grows.refuses-shared (upkeep_cause g.S.Steps.sound) old (g.S.Steps.known c.act_as.new.self) (g.S.Steps.known c.upkeep-reply.new.self) f (shares.upkeep_shared g.S.Steps.sound) refl e.passes h) c.upkeep-reply.ensures.refused)
 
 pub returns-clause-done : goal.returns-clause-done
 returns-clause-done g c = grows.if_ok _ _ c.upkeep-reply.result (λ work h idle job. (c.upkeep-reply.new.self, h idle job, sym c.leave.ensures.seen)) c.upkeep-reply.ensures.done
