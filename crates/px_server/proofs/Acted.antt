@@ -35,10 +35,9 @@ use Rattle.px_recovery.proofs.Explains.{by_entry, by_none, noted_kept}
 use Rattle.px_recovery.proofs.Numbered.{found_number}
 use Rattle.px_rows.specs.Spelled.{row_form}
 use Rattle.px_standing.specs.Agrees.{Agrees}
-use Rattle.px_server.specs.Kept.{AreBuilt, AreGroups, AreShown, HasBegun, HasFailed, HasPoints, HasServerParts, HasShown, HasTallied, IsKept, IsOnDisk, IsTold, forms_in, has_told, number_in, owed, table_in_group, tells_fault}
+use Rattle.px_server.specs.Kept.{AreBuilt, AreGroups, AreShown, HasBegun, HasFailed, HasPoints, HasServerParts, HasShown, HasTallied, IsKept, IsOnDisk, IsTold, forms_in, has_told, number_in, owed, table_in_group}
 use Rattle.px_server.specs.Others.{Beginning, OthersStay}
 use Rattle.px_server.proofs.Beside.{GoOthers, begun_then, disk_then, once_then, others_noted, others_still, own_shown, points_then, right_then, shown_then, tallied_then, traced_then}
-use Rattle.px_server.proofs.Blamed.{blamed_quiet}
 use Rattle.px_server.proofs.Built.{IsOfOwn}
 use Rattle.px_server.proofs.Others.{others_more}
 use Rattle.px_server.proofs.Lists.{all_at, map_set}
@@ -222,7 +221,7 @@ module _ {D : Type 0} (d : Ghosts D) (b : Base) (sound premise : Type 0) (began 
   -- ---- with an entry of its table
 
   module _ (tells_left : (x : D) (moment file : ℕ) (bytes : List ℕ) → d.left x moment file bytes → IsTrue d.tells) (up_to_now : (x : D) (moment file : ℕ) (bytes : List ℕ) → d.left x moment file bytes → moment ≤ d.calls x)
-      (e : Entry) (at : e.calls ≡ d.calls disk) (quiet : lasting e ≡ false) (calm : tells_fault e.act ≡ false) (may : MayCome b es e) (unshut : closing_step closed e.act ≡ closed) (still : catalogue_of b (es ++ e ∷ []) ≡ catalogue_of b es) (apart : (t : TableId) → t.0 ≢ number_in g → IsApartFrom t e.act) (own : IsOfOwn b es (number_in g) e.act)
+      (e : Entry) (at : e.calls ≡ d.calls disk) (quiet : lasting e ≡ false) (blames : has_told (es ++ e ∷ []) ≡ true → HasFailed d disk) (may : MayCome b es e) (unshut : closing_step closed e.act ≡ closed) (still : catalogue_of b (es ++ e ∷ []) ≡ catalogue_of b es) (apart : (t : TableId) → t.0 ≢ number_in g → IsApartFrom t e.act) (own : IsOfOwn b es (number_in g) e.act)
       (g' : Group) (a : IsActed d disk b es (es ++ e ∷ []) closed g g') (trail' : Recorded) (entries : trail'.entries ≡ es ++ e ∷ []) (less : owed g' + trail.room ≤ owed g + trail'.room) where
     abbrev es' : List Entry
     es' = es ++ e ∷ []
@@ -253,7 +252,7 @@ module _ {D : Type 0} (d : Ghosts D) (b : Base) (sound premise : Type 0) (began 
           server = subst (λ (ys : List Entry). IsServer d b premise (HasServerParts d b sound catalog then) disk ys late closed) (sym entries)
               (server_goes d tells_left up_to_now b premise (HasServerParts d b sound catalog groups) (HasServerParts d b sound catalog then) disk es late closed k.server e at quiet may unshut (λ running goes. goes_then g' es' o a running by goes));
           room = room_set groups place g g' l is closed trail trail' k.room less;
-          blamed = subst (λ (ys : List Entry). has_told ys ≡ true → HasFailed d disk) (sym entries) (blamed_quiet d disk es e calm k.blamed);
+          blamed = subst (λ (ys : List Entry). has_told ys ≡ true → HasFailed d disk) (sym entries) blames;
           last_call = k.last_call;
           others = λ given tells. subst (λ (ys : List Entry). OthersStay d b began disk ys) (sym entries) (others_more d b began es (e ∷ []) disk (k.others given tells));
         })

@@ -76,11 +76,11 @@ one_there (z ∷ ts) zero x y l = refl
 one_there (z ∷ ts) (suc place) x y l = one_there ts place x y (omega (arith, l))
 
 module _ (k : Known) (legal : IsLegal k.base k.seen) (closed : Option ℕ) (closing : closing_call k.seen ≡ closed) (running : closed ≡ None) (standing : Standing) (agrees : Agrees standing (catalogue_of k.base k.seen)) (t : TableId) where
-  pub counts_no_memory : Refuses (status_cause t.0) k k Memory
-  counts_no_memory = (tt, stays k legal, closing ∙ running)
+  pub counts_no_memory : (sound : Type 0) → Refuses (status_cause sound t.0) k k Memory
+  counts_no_memory sound = (tt, stays k legal, closing ∙ running)
 
-  pub counts_no_table : table_of k.base k.seen t.0 ≡ None → Refuses (status_cause t.0) k k NoTable
-  counts_no_table none = (none, stays k legal, closing ∙ running)
+  pub counts_no_table : (sound : Type 0) → table_of k.base k.seen t.0 ≡ None → Refuses (status_cause sound t.0) k k NoTable
+  counts_no_table sound none = (none, stays k legal, closing ∙ running)
 
   module _ (place : ℕ) (l : place < length standing.tables) (number : (none : Table) → (get_or standing.tables place none).id ≡ t) (g : Group) (own : g.table.id ≡ t) (told : HasTallied k.base k.seen g) where
     found_here : IsFound k.base k.seen (record { table = get_or standing.tables place g.table; indexes = indexes_of t.0 standing.indexes; at = length k.seen })

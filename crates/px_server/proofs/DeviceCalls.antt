@@ -1,5 +1,5 @@
 -- The counts of the disk, as the server shows them.
-use Rattle.std.proofs.Common.{◌≡◌, ◌<◌, ◌≤◌, ◌⊎◌, List, inl, inr, ℕ, Option, None, Some, Result, Ok, Err, IfErr, refl, sym, subst, arith}
+use Rattle.std.proofs.Common.{◌≡◌, ◌<◌, ◌≤◌, ◌⊎◌, List, inl, inr, ℕ, Option, None, Some, Result, Ok, Err, IfErr, refl, sym, subst, ◌∙◌, arith}
 use Rattle.px_outside.specs.Disk.{last_count}
 use Rattle.px_outside.specs.OnDisk.{Passes, Rose}
 use Rattle.px_outside.specs.declared.disk.Disk.{Ghosts}
@@ -27,18 +27,22 @@ use Rattle.px_basing.specs.declared.fault.BaseFault.{BaseFault}
 use Rattle.px_basing.specs.declared.fault.BaseFault.TheVariants as base
 use Rattle.px_batching.specs.Steps.{Marked, Verified}
 use Rattle.px_beginning.specs.declared.preparing.Prepared.{Prepared}
-use Rattle.px_repairs.specs.Repairs.{Fixes}
+use Rattle.px_region.specs.OnlyRead.{HasOnlyRead}
+use Rattle.px_region.specs.declared.fault.LookFault.{LookFault}
+use Rattle.px_region.specs.declared.fault.LookFault.TheVariants as look
+use Rattle.px_repairs.specs.Repairs.{Fixes, HasOnlyLooked}
 use Rattle.px_repairs.specs.declared.repairing.RepairFault.{RepairFault}
 use Rattle.px_repairs.specs.declared.repairing.RepairFault.TheVariants as repair
 use Rattle.px_server.specs.Bases.{AnswersBase}
 use Rattle.px_server.specs.Beginning.{IsUnbegun, unready_cause, untaken_cause}
 use Rattle.px_server.specs.DeviceCalls.{Blames, HasFailedIn, MakesAtMost, MakesNoCall}
 use Rattle.px_server.specs.Points.{IsNoPointOf}
-use Rattle.px_server.specs.Repairs.{Answers, WritesNothing}
+use Rattle.px_server.specs.Repairs.{Answers, AddsNoEntry}
 use Rattle.px_server.specs.Shown.{Shown}
 use Rattle.px_server.specs.Upkeep.{SteppedTable, StepsTable}
 use Rattle.px_server.specs.inner.Entering.{IsUnwritten}
 use Rattle.px_server.specs.inner.Making.{IsUnmade}
+use Rattle.px_server.specs.inner.Missing.{unread_fault}
 use Rattle.px_server.specs.inner.Quiet.{IsUnquiet}
 
 module _ {v v' w : Shown} (same : v ≡ w) where
@@ -94,14 +98,23 @@ module _ {D : Type 0} (d : Ghosts D) (disk disk' : D) where
   based_passes g g' place xs (Err (base.NotReady region)) w = stood w.untouched
   based_passes g g' place xs (Err base.Memory) w = stood w.untouched
 
+  looked_passes : (g g' : Group) → HasOnlyLooked d g g' disk disk' → Passes d disk disk' 4
+  looked_passes g g' w = (let c = w.reads.calls in let f = w.reads.faults in record { later = omega (arith, c); at_most = omega (arith, c); faults_later = omega (arith, f); begun = w.reads.first })
+
+  -- reads, and then so many calls
+  read_passes : (mid : D) → HasOnlyRead d disk mid → Passes d mid disk' 4 → Passes d disk disk' 4
+  read_passes mid reads w = (let c = reads.calls in let f = reads.faults in let a = w.later in let b = w.at_most in let e = w.faults_later in record { later = omega (arith, a, c); at_most = omega (arith, b, c); faults_later = omega (arith, e, f); begun = w.begun ∙ reads.first })
+
   pub fixed_passes : (g g' : Group) (place : ℕ) (k : List ℕ) (s : ℕ) (r : Result Fixing RepairFault) → Fixes d g g' disk disk' place k s r → Passes d disk disk' 4
-  fixed_passes g g' place k s (Ok fixing.Fixed) w = w.wrote.wrote.hands.writes.counts
-  fixed_passes g g' place k s (Ok fixing.Gone) w = stood w.0.untouched
-  fixed_passes g g' place k s (Ok fixing.InFlight) w = stood w.0.untouched
-  fixed_passes g g' place k s (Err repair.WriteFault) w = w.hands.hands.writes.counts
-  fixed_passes g g' place k s (Err (repair.Busy cells bytes)) w = stood w.untouched
-  fixed_passes g g' place k s (Err repair.NotReady) w = stood w.untouched
-  fixed_passes g g' place k s (Err repair.Memory) w = stood w.untouched
+  fixed_passes g g' place k s (Ok fixing.Fixed) w = read_passes w.read w.reads w.wrote.wrote.hands.writes.counts
+  fixed_passes g g' place k s (Ok fixing.Gone) w = looked_passes g g' w.0
+  fixed_passes g g' place k s (Ok fixing.InFlight) w = looked_passes g g' w.0
+  fixed_passes g g' place k s (Err repair.WriteFault) w = read_passes w.read w.reads w.hands.hands.writes.counts
+  fixed_passes g g' place k s (Err (repair.Busy cells bytes)) w = looked_passes g g' w
+  fixed_passes g g' place k s (Err repair.NotReady) w = looked_passes g g' w
+  fixed_passes g g' place k s (Err repair.Memory) w = looked_passes g g' w
+  fixed_passes g g' place k s (Err repair.ReadFault) w = looked_passes g g' w
+  fixed_passes g g' place k s (Err (repair.Damaged file damaged)) w = looked_passes g g' w
 
   pub steps_passes : (g g' : Group) → StepsTable d g g' disk disk' → Passes d disk disk' 4
   steps_passes g g' (inl rows) = rows.steps.counts
@@ -131,19 +144,19 @@ unquiet_blames old new s groups closed t i ReadFault why = absurd why
 unquiet_blames old new s groups closed t i WriteFault why = absurd why
 unquiet_blames old new s groups closed t i f why = tt
 
-unready_blames : (old new : Shown) (g : Group) (cs : List Change) (f : StepFault) → unready_cause g cs f → Blames old new f
-unready_blames old new g cs ReadFault why = absurd why
-unready_blames old new g cs WriteFault why = absurd why
-unready_blames old new g cs f why = tt
+unready_blames : (old new : Shown) (g : Group) (cs : List Change) (f : StepFault) → (f ≡ ReadFault → HasFailedIn old new) → unready_cause g cs f → Blames old new f
+unready_blames old new g cs ReadFault failed why = failed refl
+unready_blames old new g cs WriteFault failed why = absurd why
+unready_blames old new g cs f failed why = tt
 
 untaken_blames : (old new : Shown) (g : Group) (p : Prepared) (es : List Entry) (cs : List Change) (f : StepFault) → untaken_cause g p es cs f → Blames old new f
 untaken_blames old new g p es cs ReadFault why = absurd why
 untaken_blames old new g p es cs WriteFault why = absurd why
 untaken_blames old new g p es cs f why = tt
 
-pub unbegun_blames : (old new : Shown) (g : Group) (es : List Entry) (cs : List Change) (clock : ℕ) (f : StepFault) → IsUnbegun g es cs clock f → Blames old new f
-unbegun_blames old new g es cs clock f (inl why) = unready_blames old new g cs f why
-unbegun_blames old new g es cs clock f (inr why) = untaken_blames old new why.read why.ready.prepared es cs f why.cause
+pub unbegun_blames : (old new : Shown) (g : Group) (es : List Entry) (cs : List Change) (clock : ℕ) (f : StepFault) → (f ≡ ReadFault → HasFailedIn old new) → IsUnbegun g es cs clock f → Blames old new f
+unbegun_blames old new g es cs clock f failed (inl why) = unready_blames old new g cs f failed why
+unbegun_blames old new g es cs clock f failed (inr why) = untaken_blames old new why.read why.ready.prepared es cs f why.cause
 
 pub no_point_blames : (old new : Shown) (g : Group) (scn : Option ℕ) (f : StepFault) → IsNoPointOf g scn f → Blames old new f
 no_point_blames old new g None ReadFault why = absurd why
@@ -153,12 +166,20 @@ no_point_blames old new g (Some scn) WriteFault why = absurd why
 no_point_blames old new g scn f why = tt
 
 -- a repair or base versions that weren't written
-pub answered_blames : (old new : Shown) (n : ℕ) (fixed : Result Fixing RepairFault) (r : Result Fixing StepFault) → WritesNothing fixed → Answers n fixed r → IfErr r (Blames old new)
+pub answered_blames : (old new : Shown) (n : ℕ) (fixed : Result Fixing RepairFault) (r : Result Fixing StepFault) → AddsNoEntry fixed → Answers n fixed r → IfErr r (Blames old new)
 answered_blames old new n (Ok x) r nothing is = subst (λ (y : Result Fixing StepFault). IfErr y (Blames old new)) (sym is) tt
 answered_blames old new n (Err (repair.Busy cells bytes)) r nothing is = subst (λ (y : Result Fixing StepFault). IfErr y (Blames old new)) (sym is) tt
 answered_blames old new n (Err repair.NotReady) r nothing is = subst (λ (y : Result Fixing StepFault). IfErr y (Blames old new)) (sym is) tt
 answered_blames old new n (Err repair.WriteFault) r nothing is = absurd nothing
+answered_blames old new n (Err repair.ReadFault) r nothing is = absurd nothing
+answered_blames old new n (Err (repair.Damaged file place)) r nothing is = subst (λ (y : Result Fixing StepFault). IfErr y (Blames old new)) (sym is) tt
 answered_blames old new n (Err repair.Memory) r nothing is = subst (λ (y : Result Fixing StepFault). IfErr y (Blames old new)) (sym is) tt
+
+-- why nothing was read
+pub unread_blames : (old new : Shown) (fault : LookFault) → (fault ≡ look.ReadFault → HasFailedIn old new) → Blames old new (unread_fault fault)
+unread_blames old new look.ReadFault failed = failed refl
+unread_blames old new (look.Damaged file place) failed = tt
+unread_blames old new look.Memory failed = tt
 
 pub unbased_blames : (old new : Shown) (fault : BaseFault) (f : StepFault) → AnswersBase fault f → (fault ≡ base.WriteFault → ⊥) → Blames old new f
 unbased_blames old new (base.Busy region cells bytes) f is other = subst (Blames old new) (sym is) tt

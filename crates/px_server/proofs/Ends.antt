@@ -29,6 +29,7 @@ use Rattle.px_calls.specs.Calls.{IsFinished, IsReceipt}
 use Rattle.px_server.specs.Ending.{HasVerifiedEntry}
 use Rattle.px_server.specs.Kept.{HasBegun, IsKept, owed_by}
 use Rattle.px_server.specs.Others.{Beginning}
+use Rattle.px_server.proofs.Blamed.{blamed_quiet}
 use Rattle.px_server.proofs.Acted.{acted, acted_still, begun_at, once_at, points_at, right_at, tallied_at, traced_at}
 use Rattle.px_server.proofs.Ended.{IsLeftBatch, IsWrittenBatch, ended_acted, ended_is, gone_acted, left_batch, no_marks, written_batch}
 use Rattle.px_server.proofs.OpenBatches.{begun_tallied}
@@ -150,7 +151,7 @@ module _ {D : Type 0} (d : Ghosts D) (b : Base) (sound premise : Type 0) (began 
         pub ends : (tells_left : (y : D) (moment file : ℕ) (bytes : List ℕ) → d.left y moment file bytes → IsTrue d.tells) → ((y : D) (moment file : ℕ) (bytes : List ℕ) → d.left y moment file bytes → moment ≤ d.calls y)
             → (g' : Group) → LetsGo g g' m x → (trail' : Recorded) → trail'.entries ≡ es ++ e ∷ [] → trail'.room + 1 ≡ trail.room → IsKept d b sound premise began disk catalog standing (slice_set groups place g') trail' late closed
         ends tells_left up_to_now g' goes trail' entries room =
-            acted d b sound premise began disk catalog standing groups trail late closed k place g inside is tells_left up_to_now e calls_is refl refl may (unshut_by closed t s) (catalogue-snoc b es e ∙ still_by t s (catalogue_of b es))
+            acted d b sound premise began disk catalog standing groups trail late closed k place g inside is tells_left up_to_now e calls_is refl (blamed_quiet d disk trail.entries e refl k.blamed) may (unshut_by closed t s) (catalogue-snoc b es e ∙ still_by t s (catalogue_of b es))
             (λ y other same. other (sym same ∙ ap (λ (z : TableId). z.0) (sym own))) tt g'
             (ended_acted d disk g g' m x goes b es e may act_is closed (points_at d b sound premise began disk catalog standing groups trail late closed k place g inside is)
             (λ running. right_at d b sound premise began disk catalog standing groups trail late closed k place g inside is running) (λ running. tallied_at d b sound premise began disk catalog standing groups trail late closed k place g inside is running)

@@ -7,6 +7,7 @@ use Rattle.px_outside.specs.OnDisk.{Rose}
 use Rattle.px_outside.specs.declared.disk.Disk.{Ghosts}
 use Rattle.px_cells.specs.CellData.{CellData}
 use Rattle.px_cells.specs.Order.{ReadsSame}
+use Rattle.px_region.specs.OnlyRead.{HasOnlyRead}
 use Rattle.px_region.specs.Region.{read_of}
 use Rattle.px_tables.specs.declared.index.Index.{Index}
 use Rattle.px_values.specs.declared.name.IndexId.{IndexId}
@@ -39,16 +40,17 @@ use Rattle.px_calls.specs.declared.query.Doubt.{Doubt}
 use Rattle.px_calls.specs.declared.query.Fixing.{Fixing}
 use Rattle.px_calls.specs.declared.query.Fixing.TheVariants as fixing
 use Rattle.px_repairs.specs.Refused.{RefusesRepair}
-use Rattle.px_repairs.specs.Repairs.{Fixes, HandsRepair, HasFailedRepair, HasFixed, HasStayed, IsChangeUnderWay, IsRepair, WroteRepair, stands_in}
+use Rattle.px_repairs.specs.Repairs.{Fixes, HandsRepair, HasFailedRepair, HasFixed, HasOnlyLooked, IsChangeUnderWay, IsRepair, WroteRepair, stands_in}
 use Rattle.px_repairs.specs.declared.repairing.RepairFault.{RepairFault}
-use Rattle.px_repairs.specs.declared.repairing.RepairFault.TheVariants.{Busy, NotReady, WriteFault, Memory}
+use Rattle.px_repairs.specs.declared.repairing.RepairFault.TheVariants.{Busy, NotReady, ReadFault, Damaged, WriteFault, Memory}
 use Rattle.px_repairs.proofs.Handing.{got_some}
-use Rattle.px_server.specs.Repairs.{Answers, IsMended, Mends, RefusesFix, StandsNoMore, WritesNothing}
+use Rattle.px_server.specs.Repairs.{Answers, IsMended, Mends, RefusesFix, StandsNoMore, AddsNoEntry}
 use Rattle.px_pointreads.proofs.Asked.{there_is}
 use Rattle.px_repairs.proofs.Right.{right_repaired, tallied_repaired, traced_repaired}
 use Rattle.px_repairs.proofs.Shown.{repair_steps, repaired_shown, repaired_steps}
 use Rattle.px_server.specs.Kept.{HasPoints, HasTallied, HasTrailRoom, IsKept, IsShutAt, owed, owed_by}
 use Rattle.px_server.specs.Others.{Beginning}
+use Rattle.px_server.proofs.Blamed.{blamed_quiet}
 use Rattle.px_server.proofs.Built.{built_step, run_at, same_ids}
 use Rattle.px_server.proofs.Handed.{IndexGoes, IndexShows, index_handed, index_shut}
 use Rattle.px_server.proofs.Regions.{ToIndex}
@@ -57,6 +59,7 @@ use Rattle.px_server.proofs.Looked.{looked_kept, looked_owed}
 use Rattle.px_server.proofs.OpenBatches.{stamp_in}
 use Rattle.px_server.proofs.PointMoved.{pointed}
 use Rattle.px_server.proofs.ReadAt.{inside as inside_groups}
+use Rattle.px_server.proofs.OnlyRead.{read_kept}
 
 -- ---- lists
 
@@ -75,7 +78,7 @@ set_twice [] i x y = refl
 set_twice (z ∷ xs) zero x y = refl
 set_twice (z ∷ xs) (suc i) x y = ap (λ l. z ∷ l) (set_twice xs i x y)
 
-set_same : {A : Type 0} (xs : List A) (i : ℕ) (x : A) → i < length xs → get_or xs i x ≡ x → slice_set xs i x ≡ xs
+pub set_same : {A : Type 0} (xs : List A) (i : ℕ) (x : A) → i < length xs → get_or xs i x ≡ x → slice_set xs i x ≡ xs
 set_same [] i x l is = refl
 set_same (y ∷ xs) zero x l is = ap (λ z. z ∷ xs) (sym is)
 set_same (y ∷ xs) (suc i) x l is = ap (λ l. y ∷ l) (set_same xs i x (omega (arith, l)) is)
@@ -90,8 +93,8 @@ module _ {D : Type 0} (d : Ghosts D) (tells_left : (x : D) (moment file : ℕ) (
   abbrev then : List Group
   then = slice_set groups place g'
 
-  pub fix_stayed : HasStayed g g' disk disk' → IsKept d b sound premise began disk' catalog standing then trail late closed
-  fix_stayed h = subst (λ (x : D). IsKept d b sound premise began x catalog standing then trail late closed) (sym h.untouched) (looked_kept d b sound premise began disk catalog standing groups trail late closed k place g g' l is h.looked)
+  pub fix_stayed : HasOnlyLooked d g g' disk disk' → IsKept d b sound premise began disk' catalog standing then trail late closed
+  fix_stayed h = read_kept d disk disk' h.reads tells_left up_to_now b sound premise began catalog standing then trail late closed (looked_kept d b sound premise began disk catalog standing groups trail late closed k place g g' l is h.looked) running
 
   module _ (at : ℕ) (key : List ℕ) (s : ℕ) where
     goes_by : (looked : Group) (kept : List CellData) → IsRepair looked at key s kept → (x : IndexRegion) → slice_get looked.indexes.items at ≡ Some x → (put : List CellData) → ReadsSame put kept → IndexGoes b es es looked at x put
@@ -220,14 +223,14 @@ module _ {D : Type 0} (d : Ghosts D) (tells_left : (x : D) (moment file : ℕ) (
       in let
       kept : IsKept d b sound premise began disk catalog standing groups roomy late closed = record { told = k.told; each = k.each; shown = k.shown; server = k.server; room = room; blamed = k.blamed; last_call = k.last_call; others = k.others }
       in subst (λ (gs : List Group). IsKept d b sound premise began disk catalog standing gs trail' late closed) same
-      (pointed d tells_left up_to_now b sound premise began disk catalog standing groups roomy late closed kept e called refl refl may_fix (unshut_by closed) still_by (λ t. tt) place g g l is (record { table = refl; rows = refl; indexes = refl; batches = refl; last = refl; horizon = refl })
+      (pointed d tells_left up_to_now b sound premise began disk catalog standing groups roomy late closed kept e called refl (blamed_quiet d disk trail.entries e refl k.blamed) may_fix (unshut_by closed) still_by (λ t. tt) place g g l is (record { table = refl; rows = refl; indexes = refl; batches = refl; last = refl; horizon = refl })
       (λ t other. tt) (λ n. tt) tt (λ q s. points-snoc q g.table.id.0 s trail.entries e ∙ (apart_points g.table.id q s (open_points q g.table.id.0 s trail.entries) seat (Fixed i key) tt ∙ here q s))
       (λ hs t. tallied_apart b trail.entries g hs t e tt (standing_on t.standing)) trail' entries (omega arith)))
 
 -- ---- what became of the version
 
 module _ {D : Type 0} (d : Ghosts D) (g g' : Group) (disk disk' : D) (at : ℕ) (k : List ℕ) (s : ℕ) where
-  pub stayed : (result : Result Fixing RepairFault) → WritesNothing result → Fixes d g g' disk disk' at k s result → HasStayed g g' disk disk'
+  pub stayed : (result : Result Fixing RepairFault) → AddsNoEntry result → Fixes d g g' disk disk' at k s result → HasOnlyLooked d g g' disk disk'
   stayed (Ok fixing.Fixed) never f = absurd never
   stayed (Ok fixing.Gone) here f = f.0
   stayed (Ok fixing.InFlight) here f = f.0
@@ -235,19 +238,27 @@ module _ {D : Type 0} (d : Ghosts D) (g g' : Group) (disk disk' : D) (at : ℕ) 
   stayed (Err NotReady) here f = f
   stayed (Err WriteFault) never f = absurd never
   stayed (Err Memory) here f = f
+  stayed (Err ReadFault) never f = absurd never
+  stayed (Err (Damaged file damaged)) here f = f
 
-  pub fixed_of : (result : Result Fixing RepairFault) (x : Fixing) → (WritesNothing result → ⊥) → result ≡ Ok x → Fixes d g g' disk disk' at k s result → HasFixed d g g' disk disk' at k s × (x ≡ fixing.Fixed)
+  -- a read failed
+  pub missed_of : (result : Result Fixing RepairFault) → result ≡ Err ReadFault → Fixes d g g' disk disk' at k s result → HasOnlyLooked d g g' disk disk'
+  missed_of result is f = subst (Fixes d g g' disk disk' at k s) is f
+
+  pub fixed_of : (result : Result Fixing RepairFault) (x : Fixing) → (AddsNoEntry result → ⊥) → result ≡ Ok x → Fixes d g g' disk disk' at k s result → HasFixed d g g' disk disk' at k s × (x ≡ fixing.Fixed)
   fixed_of (Ok fixing.Fixed) x never same f = (f, (let z : ◌≡◌ {A = Result Fixing RepairFault} (Ok x) (Ok fixing.Fixed) = sym same in cc))
   fixed_of (Ok fixing.Gone) x never same f = absurd (never tt)
   fixed_of (Ok fixing.InFlight) x never same f = absurd (never tt)
   fixed_of (Err fault) x never same f = absurd (let z : ◌≡◌ {A = Result Fixing RepairFault} (Err fault) (Ok x) = same in cc)
 
-  pub failed_of : (result : Result Fixing RepairFault) (fault : RepairFault) → (WritesNothing result → ⊥) → result ≡ Err fault → Fixes d g g' disk disk' at k s result → HasFailedRepair d g g' disk disk' at k s × (result ≡ Err WriteFault)
-  failed_of (Ok x) fault never same f = absurd (let z : ◌≡◌ {A = Result Fixing RepairFault} (Ok x) (Err fault) = same in cc)
-  failed_of (Err WriteFault) fault never same f = (f, refl)
-  failed_of (Err (Busy cells bytes)) fault never same f = absurd (never tt)
-  failed_of (Err NotReady) fault never same f = absurd (never tt)
-  failed_of (Err Memory) fault never same f = absurd (never tt)
+  pub failed_of : (result : Result Fixing RepairFault) (fault : RepairFault) → (AddsNoEntry result → ⊥) → (result ≡ Err ReadFault → ⊥) → result ≡ Err fault → Fixes d g g' disk disk' at k s result → HasFailedRepair d g g' disk disk' at k s × (result ≡ Err WriteFault)
+  failed_of (Ok x) fault never other same f = absurd (let z : ◌≡◌ {A = Result Fixing RepairFault} (Ok x) (Err fault) = same in cc)
+  failed_of (Err WriteFault) fault never other same f = (f, refl)
+  failed_of (Err (Busy cells bytes)) fault never other same f = absurd (never tt)
+  failed_of (Err NotReady) fault never other same f = absurd (never tt)
+  failed_of (Err Memory) fault never other same f = absurd (never tt)
+  failed_of (Err ReadFault) fault never other same f = absurd (other refl)
+  failed_of (Err (Damaged file damaged)) fault never other same f = absurd (never tt)
 
 -- the index of a doubt in the group that was found
 pub doubt_at : (groups xs : List Group) (place at : ℕ) (i : IndexId) (g dflt : Group) → xs ≡ groups → place < length xs
@@ -300,25 +311,30 @@ module _ {D : Type 0} (d : Ghosts D) (tells_left : (x : D) (moment file : ℕ) (
   is2 : get_or then2 place g' ≡ g'
   is2 = got_set groups place g' g' l
 
-  pub stayed_flight : HasStayed g g' disk disk' → (at : ℕ) (q : Doubt) → ((x : IndexRegion) → slice_get g.indexes.items at ≡ Some x → x.index.id ≡ q.index) → IsChangeUnderWay g' at q.key q.stamp → IsInFlight b es2 q
+  -- what was true holds of the disk that was read
+  module _ (read : D) (reads : HasOnlyRead d disk read) where
+    pub kept_read : IsKept d b sound premise began read catalog standing groups trail late closed
+    kept_read = read_kept d disk read reads tells_left up_to_now b sound premise began catalog standing groups trail late closed k running
+
+  pub stayed_flight : HasOnlyLooked d g g' disk disk' → (at : ℕ) (q : Doubt) → ((x : IndexRegion) → slice_get g.indexes.items at ≡ Some x → x.index.id ≡ q.index) → IsChangeUnderWay g' at q.key q.stamp → IsInFlight b es2 q
   stayed_flight h at q named = (let k' = fix_stayed d tells_left up_to_now b sound premise began disk catalog standing groups trail late closed k running place g g' l is disk' h
       in in_flight_at b es2 k.told.legal g' (all_at IsRightGroup then2 place g' inside2 is2 (k'.each.right running)) (all_at (HasTallied b es2) then2 place g' inside2 is2 (k'.each.tallied running)) at q (named_looked g g' h.looked at q.index named))
 
   pub fixed_kept : (at : ℕ) (key : List ℕ) (s : ℕ) → HasFixed d g g' disk disk' at key s → (seat calls : ℕ) (i : IndexId) (bytes : List ℕ) → ((x : IndexRegion) → slice_get g.indexes.items at ≡ Some x → x.index.id ≡ i) → calls ≡ d.calls disk'
       → (trail' : Recorded) → trail'.entries ≡ es2 ++ record { seat = seat; calls = calls; act = Fixed i bytes } ∷ [] → trail.room ≤ trail'.room → IsKept d b sound premise began disk' catalog standing then2 trail' late closed
   fixed_kept at key s f seat calls i bytes named called trail' entries room = (let
-      k' = written_kept d tells_left up_to_now b sound premise began disk catalog standing groups trail late closed k running place g g' l is disk' at key s f.looked f.has f.kept f.due f.wrote
+      k' = written_kept d tells_left up_to_now b sound premise began f.read catalog standing groups trail late closed (kept_read f.read f.reads) running place g g' l is disk' at key s f.looked f.has f.kept f.due f.wrote
       in noted_kept d tells_left up_to_now b sound premise began disk' catalog standing then2 trail late closed k' running place g' inside2 is2 seat calls i bytes called
-      (stands_written d tells_left up_to_now b sound premise began disk catalog standing groups trail late closed k running place g g' l is disk' at key s f.looked f.has f.kept f.due f.wrote i named)
+      (stands_written d tells_left up_to_now b sound premise began f.read catalog standing groups trail late closed (kept_read f.read f.reads) running place g g' l is disk' at key s f.looked f.has f.kept f.due f.wrote i named)
       trail' entries (let before = k'.room in omega (arith, before, room)))
 
   pub fixed_flight : (at : ℕ) (q : Doubt) → HasFixed d g g' disk disk' at q.key q.stamp → ((x : IndexRegion) → slice_get g.indexes.items at ≡ Some x → x.index.id ≡ q.index) → (seat calls : ℕ) (i : IndexId) (bytes : List ℕ)
       → IsLegal b (es2 ++ record { seat = seat; calls = calls; act = Fixed i bytes } ∷ []) → IsInFlight b (es2 ++ record { seat = seat; calls = calls; act = Fixed i bytes } ∷ []) q → ⊥
   fixed_flight at q f named seat calls i bytes legal = (let
       e : Entry = record { seat = seat; calls = calls; act = Fixed i bytes } in let
-      t = tallied_before d tells_left up_to_now b sound premise began disk catalog standing groups trail late closed k running place g g' l is disk' at q.key q.stamp f.looked f.has f.kept f.due f.wrote in let
+      t = tallied_before d tells_left up_to_now b sound premise began f.read catalog standing groups trail late closed (kept_read f.read f.reads) running place g g' l is disk' at q.key q.stamp f.looked f.has f.kept f.due f.wrote in let
       t' : HasTallied b (es2 ++ e ∷ []) f.looked = record { held = t.held; tallied = tallied_apart b es2 f.looked t.held t.tallied e tt (standing_snoc b es2 f.looked seat calls i bytes t.tallied.standing) }
-      in not_in_flight b (es2 ++ e ∷ []) legal f.looked (right_before d tells_left up_to_now b sound premise began disk catalog standing groups trail late closed k running place g g' l is disk' at q.key q.stamp f.looked f.has) t' at q (named_looked g f.looked f.has at q.index named) f.kept f.due)
+      in not_in_flight b (es2 ++ e ∷ []) legal f.looked (right_before d tells_left up_to_now b sound premise began f.read catalog standing groups trail late closed (kept_read f.read f.reads) running place g g' l is disk' at q.key q.stamp f.looked f.has) t' at q (named_looked g f.looked f.has at q.index named) f.kept f.due)
 
 -- ---- the version, in the tables
 
@@ -332,7 +348,7 @@ module _ {D : Type 0} (d : Ghosts D) (groups : List Group) (place : ℕ) (g g' :
   abbrev then3 : List Group
   then3 = slice_set groups place g'
 
-  stands_no_more : HasStayed g g' disk disk' → ((x : IndexRegion) → slice_get g'.indexes.items at ≡ Some x → stands_in g' x q.key q.stamp ≡ false) → StandsNoMore then3 q
+  stands_no_more : HasOnlyLooked d g g' disk disk' → ((x : IndexRegion) → slice_get g'.indexes.items at ≡ Some x → stands_in g' x q.key q.stamp ≡ false) → StandsNoMore then3 q
   stands_no_more h judged = (let
       x = there_is g.indexes.items at there
       in let
@@ -348,7 +364,7 @@ module _ {D : Type 0} (d : Ghosts D) (groups : List Group) (place : ℕ) (g g' :
         gone = judged y.0 y.1.0;
       })
 
-  pub stayed_mends : (n : ℕ) (result : Result Fixing RepairFault) → WritesNothing result → Fixes d g g' disk disk' at q.key q.stamp result → (answer : Result Fixing StepFault) → Answers n result answer → IfOk answer (Mends groups then3 q)
+  pub stayed_mends : (n : ℕ) (result : Result Fixing RepairFault) → AddsNoEntry result → Fixes d g g' disk disk' at q.key q.stamp result → (answer : Result Fixing StepFault) → Answers n result answer → IfOk answer (Mends groups then3 q)
   stayed_mends n (Ok fixing.Fixed) never f answer is = absurd never
   stayed_mends n (Ok fixing.Gone) here f answer is = subst (λ r. IfOk r (Mends groups then3 q)) (sym is) (inr (stands_no_more f.0 f.1))
   stayed_mends n (Ok fixing.InFlight) here f answer is = subst (λ r. IfOk r (Mends groups then3 q)) (sym is) tt
@@ -356,6 +372,8 @@ module _ {D : Type 0} (d : Ghosts D) (groups : List Group) (place : ℕ) (g g' :
   stayed_mends n (Err NotReady) here f answer is = subst (λ r. IfOk r (Mends groups then3 q)) (sym is) tt
   stayed_mends n (Err WriteFault) never f answer is = absurd never
   stayed_mends n (Err Memory) here f answer is = subst (λ r. IfOk r (Mends groups then3 q)) (sym is) tt
+  stayed_mends n (Err ReadFault) never f answer is = absurd never
+  stayed_mends n (Err (Damaged file damaged)) here f answer is = subst (λ r. IfOk r (Mends groups then3 q)) (sym is) tt
 
   pub fixed_mends : HasFixed d g g' disk disk' at q.key q.stamp → IsMended groups then3 q
   fixed_mends f = record {
@@ -381,7 +399,7 @@ module _ {D : Type 0} (d : Ghosts D) (groups : List Group) (place : ℕ) (g g' :
 -- ---- what is answered
 
 module _ {D : Type 0} (d : Ghosts D) (g g' : Group) (disk disk' : D) (at n : ℕ) (k k' : Known) (q : Doubt) (found : Finds k k') (flight : IsChangeUnderWay g' at q.key q.stamp → IsInFlight k'.base k'.seen q) where
-  pub answers_ok : (result : Result Fixing RepairFault) → WritesNothing result → Fixes d g g' disk disk' at q.key q.stamp result → (answer : Result Fixing StepFault) → Answers n result answer → IfOk answer (DidFix k k' q)
+  pub answers_ok : (result : Result Fixing RepairFault) → AddsNoEntry result → Fixes d g g' disk disk' at q.key q.stamp result → (answer : Result Fixing StepFault) → Answers n result answer → IfOk answer (DidFix k k' q)
   answers_ok (Ok fixing.Fixed) never f answer is = absurd never
   answers_ok (Ok fixing.Gone) here f answer is = subst (λ r. IfOk r (DidFix k k' q)) (sym is) found
   answers_ok (Ok fixing.InFlight) here f answer is = subst (λ r. IfOk r (DidFix k k' q)) (sym is) (found, flight f.1)
@@ -389,15 +407,19 @@ module _ {D : Type 0} (d : Ghosts D) (g g' : Group) (disk disk' : D) (at n : ℕ
   answers_ok (Err NotReady) here f answer is = subst (λ r. IfOk r (DidFix k k' q)) (sym is) tt
   answers_ok (Err WriteFault) never f answer is = absurd never
   answers_ok (Err Memory) here f answer is = subst (λ r. IfOk r (DidFix k k' q)) (sym is) tt
+  answers_ok (Err ReadFault) never f answer is = absurd never
+  answers_ok (Err (Damaged file damaged)) here f answer is = subst (λ r. IfOk r (DidFix k k' q)) (sym is) tt
 
-  pub answers_refused : (result : Result Fixing RepairFault) → WritesNothing result → (answer : Result Fixing StepFault) → Answers n result answer → IfErr answer (Refuses fix_cause k k')
-  answers_refused (Ok fixing.Fixed) never answer is = absurd never
-  answers_refused (Ok fixing.Gone) here answer is = subst (λ r. IfErr r (Refuses fix_cause k k')) (sym is) tt
-  answers_refused (Ok fixing.InFlight) here answer is = subst (λ r. IfErr r (Refuses fix_cause k k')) (sym is) tt
-  answers_refused (Err (Busy cells bytes)) here answer is = subst (λ r. IfErr r (Refuses fix_cause k k')) (sym is) (tt, found.sees, found.running)
-  answers_refused (Err NotReady) here answer is = subst (λ r. IfErr r (Refuses fix_cause k k')) (sym is) (tt, found.sees, found.running)
-  answers_refused (Err WriteFault) never answer is = absurd never
-  answers_refused (Err Memory) here answer is = subst (λ r. IfErr r (Refuses fix_cause k k')) (sym is) (tt, found.sees, found.running)
+  pub answers_refused : (sound : Type 0) (result : Result Fixing RepairFault) → ((file place : ℕ) → result ≡ Err (Damaged file place) → ⊥) → AddsNoEntry result → (answer : Result Fixing StepFault) → Answers n result answer → IfErr answer (Refuses (fix_cause sound) k k')
+  answers_refused sound (Ok fixing.Fixed) undamaged never answer is = absurd never
+  answers_refused sound (Ok fixing.Gone) undamaged here answer is = subst (λ r. IfErr r (Refuses (fix_cause sound) k k')) (sym is) tt
+  answers_refused sound (Ok fixing.InFlight) undamaged here answer is = subst (λ r. IfErr r (Refuses (fix_cause sound) k k')) (sym is) tt
+  answers_refused sound (Err (Busy cells bytes)) undamaged here answer is = subst (λ r. IfErr r (Refuses (fix_cause sound) k k')) (sym is) (tt, found.sees, found.running)
+  answers_refused sound (Err NotReady) undamaged here answer is = subst (λ r. IfErr r (Refuses (fix_cause sound) k k')) (sym is) (tt, found.sees, found.running)
+  answers_refused sound (Err WriteFault) undamaged never answer is = absurd never
+  answers_refused sound (Err Memory) undamaged here answer is = subst (λ r. IfErr r (Refuses (fix_cause sound) k k')) (sym is) (tt, found.sees, found.running)
+  answers_refused sound (Err ReadFault) undamaged never answer is = absurd never
+  answers_refused sound (Err (Damaged file place)) undamaged here answer is = absurd (undamaged file place refl)
 
 -- ---- the cause of a refusal
 
@@ -409,3 +431,5 @@ answers_caused groups place g here at x there q id n number (Err (Busy cells byt
 answers_caused groups place g here at x there q id n number (Err NotReady) cause answer is = subst (λ r. IfErr r (RefusesFix groups q)) (sym is) (record { place = place; group = g; at = here; part = at; index = x; of = there; id = id; refused = (number, cause NotReady refl) })
 answers_caused groups place g here at x there q id n number (Err WriteFault) cause answer is = subst (λ r. IfErr r (RefusesFix groups q)) (sym is) tt
 answers_caused groups place g here at x there q id n number (Err Memory) cause answer is = subst (λ r. IfErr r (RefusesFix groups q)) (sym is) tt
+answers_caused groups place g here at x there q id n number (Err ReadFault) cause answer is = subst (λ r. IfErr r (RefusesFix groups q)) (sym is) tt
+answers_caused groups place g here at x there q id n number (Err (Damaged file damaged)) cause answer is = subst (λ r. IfErr r (RefusesFix groups q)) (sym is) tt

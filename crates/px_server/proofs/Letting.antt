@@ -32,6 +32,7 @@ use Rattle.px_beginning.proofs.Leaves.{right_after, shown_after, tallied_after}
 use Rattle.px_beginning.proofs.Promised.{rooms_kept}
 use Rattle.px_server.specs.Kept.{HasShown, HasTallied, IsKept, forms_in}
 use Rattle.px_server.specs.Others.{Beginning}
+use Rattle.px_server.proofs.Blamed.{blamed_quiet}
 use Rattle.px_server.proofs.Acted.{acted, acted_still, once_at, points_at, right_at, tallied_at}
 use Rattle.px_server.proofs.Begun.{begun_acted, owed_begun}
 use Rattle.px_server.proofs.FitsRows.{all_fit}
@@ -142,7 +143,7 @@ module _ {D : Type 0} (d : Ghosts D) (b : Base) (sound premise : Type 0) (began 
 
     pub begun_kept : (trail' : Recorded) → trail'.entries ≡ es ++ e ∷ [] → trail'.room ≡ trail.room + 4 → IsKept d b sound premise began disk catalog standing (slice_set groups place g') trail' late closed
     begun_kept trail' entries room =
-        acted d b sound premise began disk catalog standing groups trail late closed k place g inside is tells_left up_to_now e at refl refl may_begin (unshut_by closed t s cs) still
+        acted d b sound premise began disk catalog standing groups trail late closed k place g inside is tells_left up_to_now e at refl (blamed_quiet d disk trail.entries e refl k.blamed) may_begin (unshut_by closed t s cs) still
         (λ u other same. other (sym same ∙ ap (λ (v : TableId). v.0) (sym own))) tt
         g' (begun_acted g taken g' leaves s cs bd batch admits before after (subst (λ (x : Table). AllFit x cs) (sym leaves.table) fit) early b es e may_begin act_is base d disk closed running k.told.legal tallied_here
         (once_at d b sound premise began disk catalog standing groups trail late closed k place g inside is running))

@@ -54,6 +54,8 @@ pub mod Letting
 pub mod Lists
 pub mod LongKeys
 pub mod Looked
+pub mod OnlyRead
+pub mod Missed
 pub mod Low
 pub mod MarkSteps
 pub mod Marked

@@ -39,6 +39,7 @@ use Rattle.px_noting.specs.Apart.{IsApartFrom}
 use Rattle.px_recovery.proofs.Server.{newest_early}
 use Rattle.px_server.specs.Kept.{HasTallied, IsKept, IsShutAt, number_in, owed, steps_of, tells_fault}
 use Rattle.px_server.specs.Others.{Beginning}
+use Rattle.px_server.proofs.Blamed.{blamed_quiet}
 use Rattle.px_server.proofs.Built.{IsOfOwn}
 use Rattle.px_server.proofs.Acted.{IsActed, acted, once_at, right_at, tallied_at}
 use Rattle.px_server.proofs.Handed.{IsSameHorizon, index_handed, index_shut}
@@ -92,7 +93,7 @@ module _ {D : Type 0} (d : Ghosts D) (tells_left : (x : D) (moment file : ℕ) (
     phase_told : (s p : ℕ) → e.act ≡ PhaseDone g.table.id s p → IsPhased es e.seat g.table.id.0 s p → (a : MayCome b es e → IsActed d disk b es (es ++ e ∷ []) closed g g') → owed g' + 1 ≤ owed g → IsKept d b sound premise began disk catalog standing (slice_set groups place g') trail' late closed
     phase_told s p act phased a less = (let
         may = phase_may b es e g.table.id s p act phased (k.told.closing ∙ running) early
-        in acted d b sound premise began disk catalog standing groups trail late closed k place g l is tells_left up_to_now e at (ap lasts_by act) (ap tells_fault act) may (ap (closing_step closed) act ∙ phase_unshut closed g.table.id s p)
+        in acted d b sound premise began disk catalog standing groups trail late closed k place g l is tells_left up_to_now e at (ap lasts_by act) (blamed_quiet d disk trail.entries e (ap tells_fault act) k.blamed) may (ap (closing_step closed) act ∙ phase_unshut closed g.table.id s p)
         (catalogue-snoc b es e ∙ (ap (catalogue_step (catalogue_of b es)) act ∙ phase_still g.table.id s p (catalogue_of b es))) (phase_apart e.act g.table.id s p (number_in g) act refl) (subst (IsOfOwn b es (number_in g)) (sym act) tt) g' (a may) trail' entries (omega (arith, less, room)))
 
     marked_kept : (f : FinishesMarks g g' m) → e.act ≡ PhaseDone g.table.id f.batch.batch.stamp 1 → IsBatchIn es e.seat g.table.id.0 f.batch.batch.stamp batches.Marking → IsKept d b sound premise began disk catalog standing (slice_set groups place g') trail' late closed

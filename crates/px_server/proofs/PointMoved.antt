@@ -1,5 +1,5 @@
 -- A point of one group is opened or closed: what is true of a server stays so.
-use Rattle.std.proofs.Common.{◌≡◌, ◌≢◌, ◌<◌, ◌≤◌, ◌+◌, ℕ, Option, List, [], ◌∷◌, ◌++◌, length, get_or, refl, sym, ◌∙◌, false, arith}
+use Rattle.std.proofs.Common.{◌≡◌, ◌≢◌, ◌<◌, ◌≤◌, ◌+◌, ℕ, Option, List, [], ◌∷◌, ◌++◌, length, get_or, refl, sym, ◌∙◌, true, false, arith}
 use Rattle.std.specs.Prelude.{IsTrue}
 use Rattle.std.specs.List.{slice_set}
 use Rattle.px_outside.specs.declared.disk.Disk.{Ghosts}
@@ -20,7 +20,7 @@ use Rattle.px_group.specs.declared.group.Group.{Group}
 use Rattle.px_noting.specs.Apart.{IsApartFrom}
 use Rattle.px_noting.specs.Points.{IsSameBesidePoints}
 use Rattle.px_noting.proofs.Shown.{shown_elsewhere}
-use Rattle.px_server.specs.Kept.{HasPoints, IsKept, number_in, owed, tells_fault}
+use Rattle.px_server.specs.Kept.{HasFailed, HasPoints, IsKept, has_told, number_in, owed}
 use Rattle.px_server.specs.Others.{Beginning}
 use Rattle.px_server.proofs.Acted.{IsActed, acted, begun_at, once_at, right_at, tallied_at, traced_at}
 use Rattle.px_server.proofs.Built.{IsOfOwn, IsUnbased, built_elsewhere, built_table}
@@ -30,7 +30,7 @@ use Rattle.px_server.proofs.Told.{told_elsewhere}
 module _ {D : Type 0} (d : Ghosts D) (tells_left : (x : D) (moment file : ℕ) (bytes : List ℕ) → d.left x moment file bytes → IsTrue d.tells)
     (up_to_now : (x : D) (moment file : ℕ) (bytes : List ℕ) → d.left x moment file bytes → moment ≤ d.calls x) (b : Base) (sound premise : Type 0) (began : Beginning)
     (disk : D) (catalog : Catalog) (standing : Standing) (groups : List Group) (trail : Recorded) (late : Option Entry) (closed : Option ℕ) (k : IsKept d b sound premise began disk catalog standing groups trail late closed)
-    (e : Entry) (at : e.calls ≡ d.calls disk) (quiet : lasting e ≡ false) (calm : tells_fault e.act ≡ false) (may : MayCome b trail.entries e) (unshut : closing_step closed e.act ≡ closed) (still : (c : Catalogue) → catalogue_step c e.act ≡ c)
+    (e : Entry) (at : e.calls ≡ d.calls disk) (quiet : lasting e ≡ false) (blames : has_told (trail.entries ++ e ∷ []) ≡ true → HasFailed d disk) (may : MayCome b trail.entries e) (unshut : closing_step closed e.act ≡ closed) (still : (c : Catalogue) → catalogue_step c e.act ≡ c)
     (elsewhere : (t : TableId) → IsElsewhere t e.act) (place : ℕ) (g g' : Group) (l : place < length groups) (is : get_or groups place g ≡ g) (beside : IsSameBesidePoints g g') (apart : (t : TableId) → t.0 ≢ number_in g → IsApartFrom t e.act) (none : (n : ℕ) → IsUnbased n e.act) (named : IsOfOwn b trail.entries (number_in g) e.act)
     (points : HasPoints (trail.entries ++ e ∷ []) g') (here : (hs : List HeldBatch) → IsTallied b trail.entries g hs → IsTallied b (trail.entries ++ e ∷ []) g' hs)
     (trail' : Recorded) (entries : trail'.entries ≡ trail.entries ++ e ∷ []) (less : owed g' + trail.room ≤ owed g + trail'.room) where
@@ -62,4 +62,4 @@ module _ {D : Type 0} (d : Ghosts D) (tells_left : (x : D) (moment file : ℕ) (
   }
 
   pub pointed : IsKept d b sound premise began disk catalog standing (slice_set groups place g') trail' late closed
-  pointed = acted d b sound premise began disk catalog standing groups trail late closed k place g l is tells_left up_to_now e at quiet calm may unshut (catalogue-snoc b es e ∙ still (catalogue_of b es)) apart named g' own trail' entries less
+  pointed = acted d b sound premise began disk catalog standing groups trail late closed k place g l is tells_left up_to_now e at quiet blames may unshut (catalogue-snoc b es e ∙ still (catalogue_of b es)) apart named g' own trail' entries less

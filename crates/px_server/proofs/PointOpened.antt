@@ -40,6 +40,7 @@ use Rattle.px_calls.specs.declared.fault.StepFault.TheVariants.{BelowHorizon, Me
 use Rattle.px_server.specs.Kept.{HasTallied, IsKept, IsTold, owed_by}
 use Rattle.px_server.specs.Others.{Beginning}
 use Rattle.px_server.specs.Points.{HasBatchLeft, HasNoneLeft, IsNoPointOf, IsPointOf, point_under}
+use Rattle.px_server.proofs.Blamed.{blamed_quiet}
 use Rattle.px_server.proofs.Acted.{acted_still, once_at, points_at, right_at, same_acted, tallied_at}
 use Rattle.px_server.proofs.Decided.{decided}
 use Rattle.px_server.proofs.Ended.{IsLeftBatch, left_batch}
@@ -208,7 +209,7 @@ module _ {D : Type 0} (d : Ghosts D) (b : Base) (sound premise : Type 0) (began 
 
       pub opens : (g' : Group) → HasOpened g g' seat s → length g'.points.items ≡ length g.points.items + 1 → (trail' : Recorded) → trail'.entries ≡ es ++ e ∷ [] → trail'.room ≡ trail.room + 1 → IsKept d b sound premise began disk catalog standing (slice_set groups place g') trail' late closed
       opens g' opened more trail' entries room =
-          pointed d tells_left up_to_now b sound premise began disk catalog standing groups trail late closed k e at refl refl may (unshut_by closed t s (is_some scn)) (still_by t s (is_some scn)) (λ x. tt) place g g' inside is opened.same
+          pointed d tells_left up_to_now b sound premise began disk catalog standing groups trail late closed k e at refl (blamed_quiet d disk trail.entries e refl k.blamed) may (unshut_by closed t s (is_some scn)) (still_by t s (is_some scn)) (λ x. tt) place g g' inside is opened.same
           (λ x other same. other (sym same ∙ ap (λ (y : TableId). y.0) (sym own))) (λ n. tt) tt
           (points_opened es g (points_at d b sound premise began disk catalog standing groups trail late closed k place g inside is) e s (is_some scn) act_is g' opened) (λ hs tallied. tallied_opened b es g hs tallied e s (is_some scn) act_is g' opened) trail' entries
           (let

@@ -29,6 +29,7 @@ use Rattle.px_shown.specs.Told.{reach_of}
 use Rattle.px_server.specs.Kept.{AreBuilt, HasPoints, HasTallied, IsKept, IsOnDisk, owed}
 use Rattle.px_server.specs.Others.{Beginning}
 use Rattle.px_server.specs.Upkeep.{HasRaised, HasRisen}
+use Rattle.px_server.proofs.Blamed.{blamed_quiet}
 use Rattle.px_server.proofs.Acted.{IsActed, acted, once_at, right_at, tallied_at}
 
 -- ---- how far it rises
@@ -131,7 +132,7 @@ module _ {D : Type 0} (d : Ghosts D) (tells_left : (x : D) (moment file : ℕ) (
 
   pub raised_kept : IsKept d b sound premise began disk catalog standing (slice_set groups place g') trail' late closed
   raised_kept =
-      acted d b sound premise began disk catalog standing groups trail late closed k place g l is tells_left up_to_now e at refl refl may (unshut_by closed g.table.id r.horizon) (rise.same_catalogue b es e g.table.id r.horizon refl)
+      acted d b sound premise began disk catalog standing groups trail late closed k place g l is tells_left up_to_now e at refl (blamed_quiet d disk trail.entries e refl k.blamed) may (unshut_by closed g.table.id r.horizon) (rise.same_catalogue b es e g.table.id r.horizon refl)
       (λ x other same. other (sym same)) tt g' own trail' r.entries (let same : owed g' ≡ owed g = ap owed r.group in let room = r.room in omega (arith, same, room))
 
   -- each point that is open sees as far as the horizon

@@ -75,8 +75,8 @@ module _ (k : Known) (legal : IsLegal k.base k.seen) (closed : Option ℕ) (clos
   pub finds : Finds k k
   finds = record { sees = stays k legal; running = closing ∙ running }
 
-  pub no_memory : Refuses read_cause k k Memory
-  no_memory = (tt, stays k legal, closing ∙ running)
+  pub no_memory : (sound : Type 0) → Refuses (read_cause sound) k k Memory
+  no_memory sound = (tt, stays k legal, closing ∙ running)
 
   -- what holds of the group's data, where it shows them
   module _ (sound : Type 0) (indexes : List Index) (groups : List Group) (place : ℕ) (g : Group) (l : place < length groups) (is : get_or groups place g ≡ g) (shown : sound → AreShown k.base k.seen indexes groups) where

@@ -15,7 +15,7 @@ use Rattle.px_calls.specs.Calls.{DidBegin}
 use Rattle.px_calls.specs.Causes.{HasLongKey, LacksTable, Refuses, TableStands, begin_cause}
 use Rattle.px_calls.specs.Known.{Known}
 use Rattle.px_calls.specs.declared.fault.StepFault.{StepFault}
-use Rattle.px_calls.specs.declared.fault.StepFault.TheVariants.{Busy, Limit, Memory, NoTable, NotReady}
+use Rattle.px_calls.specs.declared.fault.StepFault.TheVariants.{Busy, Limit, Memory, NoTable, NotReady, ReadFault}
 use Rattle.px_group.specs.declared.group.Group.{Group}
 use Rattle.px_beginning.specs.Begins.{NeedsLongKey}
 use Rattle.px_beginning.specs.declared.preparing.Prepared.{Prepared}
@@ -34,13 +34,14 @@ module _ (k : Known) (legal : IsLegal k.base k.seen) (running : closing_call k.s
   begun_no_table lacks = (lacks, stays k legal, running)
 
   module _ (stands : TableStands k t) (g : Group) (last : last_of k.base t k.seen ≡ g.last) (long : g.last ≤ most_of bound.Stamps → NeedsLongKey g cs → sound → HasLongKey k.base k.seen t cs) where
-    unready : (f : StepFault) → unready_cause g cs f → Refuses (begin_cause sound t cs) k k f
-    unready (Limit bound.Key count) c = ((stands, c.0, long c.2 c.1), stays k legal, running)
-    unready (Limit bound.Cells count) c = ((stands, c.0, tt), stays k legal, running)
-    unready (Limit bound.Bytes count) c = ((stands, c.0, tt), stays k legal, running)
-    unready (Limit bound.Stamps count) c = ((stands, c.0, (let top = c.1 in omega (arith, top, last))), stays k legal, running)
-    unready Memory c = (tt, stays k legal, running)
-    unready f c = absurd c
+    unready : (f : StepFault) → (f ≡ ReadFault → ⊥) → unready_cause g cs f → Refuses (begin_cause sound t cs) k k f
+    unready (Limit bound.Key count) other c = ((stands, c.0, long c.2 c.1), stays k legal, running)
+    unready (Limit bound.Cells count) other c = ((stands, c.0, tt), stays k legal, running)
+    unready (Limit bound.Bytes count) other c = ((stands, c.0, tt), stays k legal, running)
+    unready (Limit bound.Stamps count) other c = ((stands, c.0, (let top = c.1 in omega (arith, top, last))), stays k legal, running)
+    unready ReadFault other c = absurd (other refl)
+    unready Memory other c = (tt, stays k legal, running)
+    unready f other c = absurd c
 
     untaken : (r : Group) (p : Prepared) (f : StepFault) → untaken_cause r p k.seen cs f → Refuses (begin_cause sound t cs) k k f
     untaken r p (Limit bound.Trail count) c = ((stands, c.0, c.1), stays k legal, running)
@@ -51,9 +52,10 @@ module _ (k : Known) (legal : IsLegal k.base k.seen) (running : closing_call k.s
     untaken r p Memory c = (tt, stays k legal, running)
     untaken r p f c = absurd c
 
-    pub unbegun : (clock : ℕ) (f : StepFault) → IsUnbegun g k.seen cs clock f → Refuses (begin_cause sound t cs) k k f
-    unbegun clock f (inl c) = unready f c
-    unbegun clock f (inr c) = untaken c.read c.ready.prepared f c.cause
+    -- no read failed
+    pub unbegun : (clock : ℕ) (f : StepFault) → (f ≡ ReadFault → ⊥) → IsUnbegun g k.seen cs clock f → Refuses (begin_cause sound t cs) k k f
+    unbegun clock f other (inl c) = unready f other c
+    unbegun clock f other (inr c) = untaken c.read c.ready.prepared f c.cause
 
 counted_more : (es : List Entry) (e : Entry) → counted_bytes (es ++ e ∷ []) ≡ counted_bytes es + counted_act e.act
 counted_more es e =

@@ -21,6 +21,7 @@ use Rattle.px_noting.proofs.OpenPoints.{points_released, tallied_released}
 use Rattle.px_recovery.proofs.Server.{newest_early}
 use Rattle.px_server.specs.Kept.{HasPoints, IsKept, owed_by, table_in_group}
 use Rattle.px_server.specs.Others.{Beginning}
+use Rattle.px_server.proofs.Blamed.{blamed_quiet}
 use Rattle.px_server.proofs.Lists.{all_at}
 use Rattle.px_server.proofs.PointMoved.{pointed}
 
@@ -88,7 +89,7 @@ module _ {D : Type 0} (d : Ghosts D) (tells_left : (x : D) (moment file : ℕ) (
 
   pub closes : (g' : Group) → HasReleased g g' seat s → length g'.points.items + 1 ≡ length g.points.items → (trail' : Recorded) → trail'.entries ≡ es ++ e ∷ [] → trail'.room + 1 ≡ trail.room → IsKept d b sound premise began disk catalog standing (slice_set groups place g') trail' late closed
   closes g' released fewer trail' entries room =
-      pointed d tells_left up_to_now b sound premise began disk catalog standing groups trail late closed k e at refl refl may (unshut_by closed t s) (still_by t s) (λ x. tt) place g g' inside is released.same
+      pointed d tells_left up_to_now b sound premise began disk catalog standing groups trail late closed k e at refl (blamed_quiet d disk trail.entries e refl k.blamed) may (unshut_by closed t s) (still_by t s) (λ x. tt) place g g' inside is released.same
       (λ x other same. other (sym same ∙ ap (λ (y : TableId). y.0) (sym own))) (λ n. tt) tt
       (points_released es g here e s act_is g' released) (λ hs tallied. tallied_released b es g hs tallied e s act_is g' released) trail' entries
       (let

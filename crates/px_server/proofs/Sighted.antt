@@ -44,13 +44,13 @@ use Rattle.px_reading.proofs.Looked.{looked_on, part_at}
 use Rattle.px_pointreads.specs.Points.{AreOfIndex, GroupLacksIndex, IsReadAt}
 use Rattle.px_pointreads.proofs.Asked.{there_is}
 use Rattle.px_recovery.proofs.Tables.{one_place}
-use Rattle.px_repairs.specs.Repairs.{Fixes, HasFixed, HasStayed, IsJudged, is_doubt, stands_in}
+use Rattle.px_repairs.specs.Repairs.{Fixes, HasFixed, HasOnlyLooked, IsJudged, is_doubt, stands_in}
 use Rattle.px_repairs.specs.declared.judging.Judged.TheVariants as judged
 use Rattle.px_repairs.specs.declared.repairing.RepairFault.{RepairFault}
-use Rattle.px_repairs.specs.declared.repairing.RepairFault.TheVariants.{Busy, NotReady, WriteFault, Memory}
+use Rattle.px_repairs.specs.declared.repairing.RepairFault.TheVariants.{Busy, NotReady, ReadFault, Damaged, WriteFault, Memory}
 use Rattle.px_server.specs.Kept.{AreShown, HasShown, HasTallied, IsKept, forms_in, number_in}
 use Rattle.px_server.specs.Others.{Beginning}
-use Rattle.px_server.specs.Repairs.{Answers, WritesNothing}
+use Rattle.px_server.specs.Repairs.{Answers, AddsNoEntry}
 use Rattle.px_server.specs.Sights.{has_doubt, have_doubt, is_seen_in, table_has_doubt}
 use Rattle.px_server.specs.Upkeep.{HasStepped, SteppedTable}
 use Rattle.px_server.proofs.Doubted.{HasSameStatus, and_left, and_right, any_at, any_put, any_set, at_any, both, doubt_within, repaired_beside, same_doubt, seen_below, some_same}
@@ -301,7 +301,7 @@ module _ {D : Type 0} (d : Ghosts D) (b : Base) (sound premise : Type 0) (began 
 
   -- ---- what is answered of a repair
 
-  pub answers_there : (disk' : D) (at : ℕ) (q : Doubt) → at < length g.indexes.items → ((x : IndexRegion) → slice_get g.indexes.items at ≡ Some x → x.index.id ≡ q.index) → (n : ℕ) (result : Result Fixing RepairFault) → WritesNothing result
+  pub answers_there : (disk' : D) (at : ℕ) (q : Doubt) → at < length g.indexes.items → ((x : IndexRegion) → slice_get g.indexes.items at ≡ Some x → x.index.id ≡ q.index) → (n : ℕ) (result : Result Fixing RepairFault) → AddsNoEntry result
       → Fixes d g g' disk disk' at q.key q.stamp result → (answer : Result Fixing StepFault) → Answers n result answer → IfOk answer (λ f. (p : Point) → have_doubt groups p (version_of q) ≡ true → f ≢ fixing.Gone)
   answers_there disk' at q there named n (Ok fixing.Fixed) never f answer told = absurd never
   answers_there disk' at q there named n (Ok fixing.Gone) here f answer told = subst (λ r. IfOk r (λ w. (p : Point) → have_doubt groups p (version_of q) ≡ true → w ≢ fixing.Gone)) (sym told)
@@ -311,9 +311,11 @@ module _ {D : Type 0} (d : Ghosts D) (b : Base) (sound premise : Type 0) (began 
   answers_there disk' at q there named n (Err NotReady) here f answer told = subst (λ r. IfOk r (λ w. (p : Point) → have_doubt groups p (version_of q) ≡ true → w ≢ fixing.Gone)) (sym told) tt
   answers_there disk' at q there named n (Err WriteFault) never f answer told = absurd never
   answers_there disk' at q there named n (Err Memory) here f answer told = subst (λ r. IfOk r (λ w. (p : Point) → have_doubt groups p (version_of q) ≡ true → w ≢ fixing.Gone)) (sym told) tt
+  answers_there disk' at q there named n (Err ReadFault) never f answer told = absurd never
+  answers_there disk' at q there named n (Err (Damaged file damaged)) here f answer told = subst (λ r. IfOk r (λ w. (p : Point) → have_doubt groups p (version_of q) ≡ true → w ≢ fixing.Gone)) (sym told) tt
 
   -- where nothing was written, all of it stays
-  pub stayed_doubts : (disk' : D) → HasStayed g g' disk disk' → (p : Point) (v : IndexVersion) → have_doubt (slice_set groups place g') p v ≡ have_doubt groups p v
+  pub stayed_doubts : (disk' : D) → HasOnlyLooked d g g' disk disk' → (p : Point) (v : IndexVersion) → have_doubt (slice_set groups place g') p v ≡ have_doubt groups p v
   stayed_doubts disk' h p v = put_tables p v groups place g g' l is (looked_table p v g g' h.looked)
 
   -- where a repair was written, at every other key, if what was opened is sound

@@ -339,8 +339,8 @@ module _ (k : Known) (legal : IsLegal k.base k.seen) where
   pub did_raise : (es' : List Entry) (calls : ℕ) (t : TableId) (h : ℕ) → es' ≡ k.seen ++ record { seat = k.seat; calls = calls; act = Raised t h } ∷ [] → IsLegal k.base es' → DidWork k (record k { seen = es' }) Did
   did_raise es' calls t h then legal' = inr (t, h, one_more k es' calls (Raised t h) legal then legal')
 
-  pub work_no_memory : closing_call k.seen ≡ None → Refuses upkeep_cause k k Memory
-  work_no_memory open_ = (tt, stays k legal, open_)
+  pub work_no_memory : (sound : Type 0) → closing_call k.seen ≡ None → Refuses (upkeep_cause sound) k k Memory
+  work_no_memory sound open_ = (tt, stays k legal, open_)
 
-  pub work_failed : (es' : List Entry) (calls call : ℕ) → es' ≡ k.seen ++ record { seat = k.seat; calls = calls; act = Shut call } ∷ [] → IsLegal k.base es' → Refuses upkeep_cause k (record k { seen = es' }) WriteFault
-  work_failed es' calls call then legal' = (tt, (call, one_more k es' calls (Shut call) legal then legal'))
+  pub work_failed : (sound : Type 0) (es' : List Entry) (calls call : ℕ) → es' ≡ k.seen ++ record { seat = k.seat; calls = calls; act = Shut call } ∷ [] → IsLegal k.base es' → Refuses (upkeep_cause sound) k (record k { seen = es' }) WriteFault
+  work_failed sound es' calls call then legal' = (tt, (call, one_more k es' calls (Shut call) legal then legal'))

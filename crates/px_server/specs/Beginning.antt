@@ -10,7 +10,7 @@ use Rattle.px_trail.specs.Recorded.{Recorded}
 use Rattle.px_trail.specs.declared.entry.Entry.{Entry}
 use Rattle.px_turns.specs.Turns.{drawn_stamp}
 use Rattle.px_calls.specs.declared.fault.StepFault.{StepFault}
-use Rattle.px_calls.specs.declared.fault.StepFault.TheVariants.{Busy, Limit, NotReady, Memory}
+use Rattle.px_calls.specs.declared.fault.StepFault.TheVariants.{Busy, Limit, NotReady, ReadFault, Memory}
 use Rattle.px_phases.specs.Batch.{BatchData}
 use Rattle.px_group.specs.Group.{IsRightGroup}
 use Rattle.px_group.specs.declared.group.Group.{Group}
@@ -40,6 +40,7 @@ unready_cause g cs (Limit bound.Key count) = (count ≡ most_of bound.Key) × Ne
 unready_cause g cs (Limit bound.Cells count) = (count ≡ most_of bound.Cells) × ((stamp : ℕ) × HasManyCells g stamp cs)
 unready_cause g cs (Limit bound.Bytes count) = (count ≡ most_of bound.Bytes) × ((stamp : ℕ) × HasManyBytes g stamp cs)
 unready_cause g cs (Limit bound.Stamps count) = (count ≡ most_of bound.Stamps) × (most_of bound.Stamps ≤ g.last)
+unready_cause g cs ReadFault = Unit {0}
 unready_cause g cs Memory = Unit {0}
 unready_cause g cs f = ⊥
 

@@ -18,7 +18,7 @@ use Rattle.px_reading.specs.Looked.{HasLooked}
 use Rattle.px_repairs.specs.Refused.{RefusesDue}
 use Rattle.px_repairs.specs.Repairs.{IsRegionStep, IsRepair, stands_in}
 use Rattle.px_repairs.specs.declared.repairing.RepairFault.{RepairFault}
-use Rattle.px_repairs.specs.declared.repairing.RepairFault.TheVariants.{Busy, NotReady, WriteFault, Memory}
+use Rattle.px_repairs.specs.declared.repairing.RepairFault.TheVariants.{Busy, NotReady, ReadFault, Damaged, WriteFault, Memory}
 use Rattle.px_server.specs.Refused.{IsRefusedIn}
 
 -- where it is made in the region of this number
@@ -28,16 +28,20 @@ Answers n (Err (Busy cells bytes)) answer = answer ≡ Err (steps.Busy n cells b
 Answers n (Err NotReady) answer = answer ≡ Err (steps.NotReady n)
 Answers n (Err WriteFault) answer = answer ≡ Err steps.WriteFault
 Answers n (Err Memory) answer = answer ≡ Err steps.Memory
+Answers n (Err ReadFault) answer = answer ≡ Err steps.ReadFault
+Answers n (Err (Damaged file place)) answer = answer ≡ Err (steps.Damaged file place)
 
--- nothing was written
-abbrev pub WritesNothing : Result Fixing RepairFault → Type 0
-WritesNothing (Ok fixing.Fixed) = ⊥
-WritesNothing (Ok fixing.Gone) = Unit {0}
-WritesNothing (Ok fixing.InFlight) = Unit {0}
-WritesNothing (Err (Busy cells bytes)) = Unit {0}
-WritesNothing (Err NotReady) = Unit {0}
-WritesNothing (Err WriteFault) = ⊥
-WritesNothing (Err Memory) = Unit {0}
+-- no entry tells of it: nothing was written, and no read failed
+abbrev pub AddsNoEntry : Result Fixing RepairFault → Type 0
+AddsNoEntry (Ok fixing.Fixed) = ⊥
+AddsNoEntry (Ok fixing.Gone) = Unit {0}
+AddsNoEntry (Ok fixing.InFlight) = Unit {0}
+AddsNoEntry (Err (Busy cells bytes)) = Unit {0}
+AddsNoEntry (Err NotReady) = Unit {0}
+AddsNoEntry (Err WriteFault) = ⊥
+AddsNoEntry (Err Memory) = Unit {0}
+AddsNoEntry (Err ReadFault) = ⊥
+AddsNoEntry (Err (Damaged file place)) = Unit {0}
 
 -- the index of the doubt shows no unverified version of its stamp at its key
 pub record StandsNoMore (groups : List Group) (d : Doubt) : Type 0 where

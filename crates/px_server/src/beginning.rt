@@ -1,10 +1,13 @@
 // Batches begin.
-ghost use Rattle.std.specs.Prelude.{◌≡◌, ◌≢◌, ◌≤◌, ◌+◌, ◌*◌, [], IfErr, IfOk, OnErr, OnOk, length, true};
+ghost use Rattle.std.specs.Prelude.{◌≡◌, ◌≢◌, ◌≤◌, ◌+◌, ◌*◌, [], Err, IfErr, IfOk, OnErr, OnOk, length, true};
 ghost use Rattle.px_calls.specs.Calls.{DidBegin};
 ghost use Rattle.px_calls.specs.Causes.{Refuses, begin_cause, index_count};
 ghost use Rattle.px_calls.specs.Requires.{AreFitting};
 ghost use Rattle.px_group.specs.Group.{IsRightGroup};
+ghost use Rattle.px_calls.specs.declared.fault.StepFault.{StepFault as Fault};
+ghost use Rattle.px_outside.specs.OnDisk.{Rose};
 ghost use Rattle.px_phases.specs.Batch.{AllFit};
+ghost use Rattle.px_region.specs.OnlyRead.{HasOnlyRead};
 ghost use Rattle.px_trail.specs.Batches.{is_distinct, rows_of};
 ghost use Rattle.px_beginning.specs.Leaves.{KeepsRooms, LeavesGroup};
 ghost use Rattle.px_server.specs.Beginning.{HasTaken, IsUnbegun, LetsIn, RefusesBatch};
@@ -12,6 +15,7 @@ ghost use Rattle.px_server.specs.CallsLeft.{calls_left};
 ghost use Rattle.px_server.specs.DeviceCalls.{Blames, MakesNoCall};
 ghost use Rattle.px_server.specs.Shown.{known_by};
 
+use crate::missing::told;
 use crate::readying::{Ready, Started, ready_of};
 use crate::taking::take_room;
 use crate::{Founded, Server};
@@ -45,7 +49,8 @@ fn let_in<D: Disk>(
     ensures refused { IfErr result (IsUnbegun group.old trail.old.entries changes.now clock) }
     ensures leaves { OnErr result (LeavesGroup group.old group.new × KeepsRooms group.old group.new) }
     ensures trail { OnErr result (trail.new ≡ trail.old) }
-    ensures untouched { disk.new ≡ disk.old }
+    ensures failed { result ≡ Err Fault.ReadFault → Rose ⟦<D as Disk>⟧ disk.old disk.new }
+    ensures only_read { HasOnlyRead ⟦<D as Disk>⟧ disk.old disk.new }
 {
     law_begins();
     let ready = ready_of(alloc, disk, group, changes, clock)?;
@@ -82,6 +87,10 @@ impl<D: CountsCalls, C: Clock, B: Based + Founded> Server<D, C, B> {
         let Some(place) = numbered_place(&self.standing, table) else {
             return Err(StepFault::NoTable);
         };
+        // For a read that fails.
+        if self.trail.reserve(1, 0).is_err() {
+            return Err(StepFault::Memory);
+        }
         let clock = self.clock.now();
         let begun = let_in(
             self.alloc,
@@ -94,6 +103,7 @@ impl<D: CountsCalls, C: Clock, B: Based + Founded> Server<D, C, B> {
         match begun {
             Ok(started) => {
                 let Started { stamp, changes } = started;
+                self.trail.give_back(1, 0);
                 self.trail.push(Entry {
                     seat: self.seat,
                     calls: self.disk.call_count(),
@@ -105,7 +115,10 @@ impl<D: CountsCalls, C: Clock, B: Based + Founded> Server<D, C, B> {
                 });
                 Ok(Ticket { table, stamp })
             }
-            Err(fault) => Err(fault),
+            Err(fault) => {
+                let calls = self.disk.call_count();
+                Err(told(&mut self.trail, self.seat, calls, fault))
+            }
         }
     }
 }

@@ -1,15 +1,17 @@
 // Repairs.
-ghost use Rattle.std.specs.Prelude.{◌≡◌, ◌≢◌, ◌≤◌, ◌+◌, ◌↔◌, true, IfErr, IfOk, IsSome, IsTrue};
+ghost use Rattle.std.specs.Prelude.{◌≡◌, ◌≢◌, ◌≤◌, ◌+◌, ◌↔◌, true, Err, IfErr, IfOk, IsSome, IsTrue};
 ghost use Rattle.px_calls.specs.Calls.{DidFix};
 ghost use Rattle.px_calls.specs.Causes.{Refuses, fix_cause};
 ghost use Rattle.px_calls.specs.Doubtful.{IndexVersion, IsForRoom, version_of};
 ghost use Rattle.px_calls.specs.declared.query.Point.{Point as Points};
+ghost use Rattle.px_repairs.specs.declared.repairing.RepairFault.{RepairFault as Cause};
 ghost use Rattle.px_server.specs.Looks.{rows_looked};
 ghost use Rattle.px_server.specs.DeviceCalls.{Blames, MakesAtMost};
 ghost use Rattle.px_server.specs.Shown.{known_by};
 ghost use Rattle.px_server.specs.Sights.{have_doubt};
-ghost use Rattle.px_server.specs.Repairs.{Answers, Mends, RefusesFix, WritesNothing};
+ghost use Rattle.px_server.specs.Repairs.{AddsNoEntry, Answers, Mends, RefusesFix};
 
+use crate::missing::miss;
 use crate::shutting::shut;
 use crate::{Founded, Server};
 use px_calls::{Doubt, Fixing, StepFault};
@@ -29,15 +31,25 @@ fn copied(alloc: Global, key: &Key) -> Result<Key, AllocError>
     Ok(Key::of(bytes))
 }
 
-/// Whether nothing was written.
+/// Whether no entry tells of it: nothing was written, and no read failed.
 fn has_stayed(fixed: &Result<Fixing, RepairFault>) -> bool
-    ensures { IsTrue result ↔ WritesNothing fixed.now }
+    ensures { IsTrue result ↔ AddsNoEntry fixed.now }
 {
     match fixed {
         Ok(Fixing::Fixed) => false,
         Ok(_) => true,
-        Err(RepairFault::WriteFault) => false,
+        Err(RepairFault::ReadFault | RepairFault::WriteFault) => false,
         Err(_) => true,
+    }
+}
+
+/// Whether a read failed.
+fn has_missed(fixed: &Result<Fixing, RepairFault>) -> bool
+    ensures { IsTrue result ↔ (fixed.now ≡ Err Cause.ReadFault) }
+{
+    match fixed {
+        Err(RepairFault::ReadFault) => true,
+        _ => false,
     }
 }
 
@@ -53,7 +65,9 @@ fn answered(fixed: Result<Fixing, RepairFault>, region: u32) -> Result<Fixing, S
             bytes,
         }),
         Err(RepairFault::NotReady) => Err(StepFault::NotReady { region }),
+        Err(RepairFault::ReadFault) => Err(StepFault::ReadFault),
         Err(RepairFault::WriteFault) => Err(StepFault::WriteFault),
+        Err(RepairFault::Damaged { file, place }) => Err(StepFault::Damaged { file, place }),
         Err(RepairFault::Memory) => Err(StepFault::Memory),
     }
 }
@@ -69,7 +83,7 @@ impl<D: CountsCalls, C: Clock, B: Based + Founded> Server<D, C, B> {
         ensures there { IfOk result (λ fixing. (p : Points) → have_doubt self.old.groups p (version_of d.now) ≡ true → fixing ≢ Fixing.Gone) }
         ensures others { IfOk result (λ _. B.sound → (p : Points) → (v : IndexVersion) → v.key ≢ d.now.key → have_doubt self.new.groups p v ≡ have_doubt self.old.groups p v) }
         ensures still { IfErr result (λ f. IsForRoom f → (p : Points) → (v : IndexVersion) → have_doubt self.new.groups p v ≡ have_doubt self.old.groups p v) }
-        ensures refused { IfErr result (Refuses fix_cause (known_by B.base B.damaged self.old) (known_by B.base B.damaged self.new)) }
+        ensures refused { IfErr result (Refuses (fix_cause B.sound) (known_by B.base B.damaged self.old) (known_by B.base B.damaged self.new)) }
         ensures caused { IfErr result (RefusesFix self.old.groups d.now) }
         ensures counts { MakesAtMost 4 self.old self.new }
         ensures blames { IfErr result (Blames self.old self.new) }
@@ -97,12 +111,16 @@ impl<D: CountsCalls, C: Clock, B: Based + Founded> Server<D, C, B> {
             d.key.as_slice(),
             d.stamp,
         );
+        let calls = self.disk.call_count();
+        if has_missed(&fixed) {
+            drop(key);
+            return Err(miss(&mut self.trail, self.seat, calls));
+        }
         if has_stayed(&fixed) {
             drop(key);
             self.trail.give_back(1, 0);
             return answered(fixed, region);
         }
-        let calls = self.disk.call_count();
         match fixed {
             Ok(fixing) => {
                 self.trail.push(Entry {

@@ -14,6 +14,7 @@ mod fixing;
 mod founded;
 mod laws;
 mod marking;
+mod missing;
 mod opening;
 mod points;
 mod reading;

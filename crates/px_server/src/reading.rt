@@ -14,6 +14,7 @@ ghost use Rattle.px_server.specs.DeviceCalls.{Blames, MakesNoCall};
 ghost use Rattle.px_server.specs.Shown.{known_by};
 ghost use Rattle.px_server.specs.Sights.{have_doubt};
 
+use crate::missing::{told, unread};
 use crate::{Founded, Server};
 use px_calls::{Chunk, Doubt, Held, Path, Point, StepFault, Verdict};
 use px_indexrow::Repair;
@@ -65,7 +66,7 @@ impl<D: CountsCalls, C: Clock, B: Based + Founded> Server<D, C, B> {
         ensures risen { IfOk result (λ c. path.now.by ≡ ByTable → HasRisenBy (length c.found) (rows_looked self.old.groups) (rows_looked self.new.groups)) }
         ensures counted { IfOk result (λ c. HasCountedOf self.old.groups self.new.groups p.now path.now.by (length c.found)) }
         ensures doubts { IfOk result (λ c. AreDoubtful (have_doubt self.new.groups) p.now c.found) }
-        ensures refused { IfErr result (Refuses read_cause (known_by B.base B.damaged self.old) (known_by B.base B.damaged self.new)) }
+        ensures refused { IfErr result (Refuses (read_cause B.sound) (known_by B.base B.damaged self.old) (known_by B.base B.damaged self.new)) }
         ensures counts { MakesNoCall self.old self.new }
         ensures blames { IfErr result (Blames self.old self.new) }
     {
@@ -75,10 +76,19 @@ impl<D: CountsCalls, C: Clock, B: Based + Founded> Server<D, C, B> {
         let Some(place) = point_place(&self.groups, p) else {
             return Err(StepFault::Memory);
         };
+        if self.trail.reserve(1, 0).is_err() {
+            return Err(StepFault::Memory);
+        }
         let group = &mut self.groups[place];
         match look(self.alloc, &mut self.disk, group, p, path, after) {
-            Ok(next) => Ok(chunk(next, self.trail.len())),
-            Err(_) => Err(StepFault::Memory),
+            Ok(next) => {
+                self.trail.give_back(1, 0);
+                Ok(chunk(next, self.trail.len()))
+            }
+            Err(fault) => {
+                let calls = self.disk.call_count();
+                Err(told(&mut self.trail, self.seat, calls, unread(fault)))
+            }
         }
     }
 
@@ -90,7 +100,7 @@ impl<D: CountsCalls, C: Clock, B: Based + Founded> Server<D, C, B> {
         ensures same { IfErr result (λ f. d.new ≡ d.old) }
         ensures counted { rows_looked self.new.groups ≤ rows_looked self.old.groups + 1 }
         ensures doubts { (q : Points) → (v : IndexVersion) → have_doubt self.new.groups q v ≡ have_doubt self.old.groups q v }
-        ensures refused { IfErr result (Refuses read_cause (known_by B.base B.damaged self.old) (known_by B.base B.damaged self.new)) }
+        ensures refused { IfErr result (Refuses (read_cause B.sound) (known_by B.base B.damaged self.old) (known_by B.base B.damaged self.new)) }
         ensures counts { MakesNoCall self.old self.new }
         ensures blames { IfErr result (Blames self.old self.new) }
     {
@@ -100,13 +110,20 @@ impl<D: CountsCalls, C: Clock, B: Based + Founded> Server<D, C, B> {
         let Some(place) = point_place(&self.groups, p) else {
             return Err(StepFault::Memory);
         };
+        if self.trail.reserve(1, 0).is_err() {
+            return Err(StepFault::Memory);
+        }
         let group = &mut self.groups[place];
         match consult(self.alloc, &mut self.disk, group, p, d) {
             Ok(consulted) => {
+                self.trail.give_back(1, 0);
                 d.verdict = Some(verdict_of(consulted.verdict));
                 Ok(held(consulted.row, self.trail.len()))
             }
-            Err(_) => Err(StepFault::Memory),
+            Err(fault) => {
+                let calls = self.disk.call_count();
+                Err(told(&mut self.trail, self.seat, calls, unread(fault)))
+            }
         }
     }
 }

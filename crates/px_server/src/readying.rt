@@ -1,8 +1,10 @@
 // What is made for a batch before it takes any room.
-ghost use Rattle.std.specs.Prelude.{◌≡◌, ◌≤◌, ℕ, IfOk, IfErr, List, true};
+ghost use Rattle.std.specs.Prelude.{◌≡◌, ◌≢◌, ◌≤◌, ℕ, Err, IfOk, IfErr, List, true};
 ghost use Rattle.px_group.specs.Group.{IsRightGroup};
+ghost use Rattle.px_outside.specs.OnDisk.{Rose};
 ghost use Rattle.px_group.specs.declared.group.Group.{Group as Groups};
 ghost use Rattle.px_phases.specs.Batch.{AllFit};
+ghost use Rattle.px_region.specs.OnlyRead.{HasOnlyRead};
 ghost use Rattle.px_trail.specs.Batches.{is_distinct, rows_of};
 ghost use Rattle.px_values.specs.Limits.{most_of};
 ghost use Rattle.px_values.specs.declared.change.Change.{Change as RowChange};
@@ -47,20 +49,24 @@ pub(crate) fn over(which: Limit) -> StepFault
     }
 }
 
-/// Why no batch is prepared. Its rows are in memory, so nothing is told of the disk.
+/// Why no batch is prepared.
 fn unprepared(fault: BeginFault) -> StepFault
-    ensures { (g : Groups) (cs : List RowChange) (s : ℕ) → (fault ≡ Cause.Limit Bound.Key → NeedsLongKey g cs) → (fault ≡ Cause.Limit Bound.Cells → HasManyCells g s cs) → (fault ≡ Cause.Limit Bound.Bytes → HasManyBytes g s cs) → g.last ≤ 9223372036854775807 → unready_cause g cs result }
+    ensures cause { (g : Groups) (cs : List RowChange) (s : ℕ) → (fault ≡ Cause.Limit Bound.Key → NeedsLongKey g cs) → (fault ≡ Cause.Limit Bound.Cells → HasManyCells g s cs) → (fault ≡ Cause.Limit Bound.Bytes → HasManyBytes g s cs)
+        → ((file place : ℕ) → fault ≢ Cause.Damaged file place) → g.last ≤ 9223372036854775807 → unready_cause g cs result }
+    ensures read { result ≡ Fault.ReadFault → fault ≡ Cause.ReadFault }
 {
     match fault {
         BeginFault::Limit(Limit::Key) => over(Limit::Key),
         BeginFault::Limit(Limit::Cells) => over(Limit::Cells),
         BeginFault::Limit(Limit::Bytes) => over(Limit::Bytes),
+        BeginFault::ReadFault => StepFault::ReadFault,
+        BeginFault::Damaged { file, place } => StepFault::Damaged { file, place },
         _ => StepFault::Memory,
     }
 }
 
 /// Reads the rows of a batch, makes its cells, and draws its stamp behind the last one, while the clock shows this. Nothing of the group
-/// changes but how many rows were looked at.
+/// changes but how many rows were looked at, and the disk is only read.
 pub(crate) fn ready_of<D: Disk>(
     alloc: Global,
     disk: &mut D,
@@ -75,7 +81,8 @@ pub(crate) fn ready_of<D: Disk>(
     ensures refused { IfErr result (unready_cause group.old changes.now) }
     ensures leaves { LeavesGroup group.old group.new }
     ensures keeps { KeepsRooms group.old group.new }
-    ensures untouched { disk.new ≡ disk.old }
+    ensures failed { result ≡ Err Fault.ReadFault → Rose ⟦<D as Disk>⟧ disk.old disk.new }
+    ensures only_read { HasOnlyRead ⟦<D as Disk>⟧ disk.old disk.new }
 {
     // No stamp of a folder that the program left is greater.
     if group.last > Limit::Stamps.most() {

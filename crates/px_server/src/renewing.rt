@@ -62,7 +62,7 @@ impl<D: CountsCalls, C: Clock, B: Based + Founded> Server<D, C, B> {
         ensures groups { self.new.groups ≡ self.old.groups }
         ensures same { IfOk result (λ _. (self.new ≡ record self.old { calls = self.new.calls; faults = self.new.faults }) × (self.old.closed ≡ None)) }
         ensures unmade { IfOk result (λ did. did ≡ false → self.new ≡ self.old) }
-        ensures refused { IfErr result (Refuses upkeep_cause (known_by B.base B.damaged self.old) (known_by B.base B.damaged self.new)) }
+        ensures refused { IfErr result (Refuses (upkeep_cause B.sound) (known_by B.base B.damaged self.old) (known_by B.base B.damaged self.new)) }
         ensures counts { MakesAtMost 4 self.old self.new }
         ensures blames { IfErr result (Blames self.old self.new) }
     {

@@ -134,7 +134,7 @@ impl<D: CountsCalls, C: Clock, B: Based + Founded> Server<D, C, B> {
         ensures ok { IfOk result (DidCount (known_by B.base B.damaged self.old) (known_by B.base B.damaged self.new) table) }
         ensures counted { IfOk result (λ s. HasLogged self.old.logged table.0 s.cells) }
         ensures keys { IfOk result (λ s. CountKeys self.old.groups table s.indexes) }
-        ensures refused { IfErr result (Refuses (status_cause table.0) (known_by B.base B.damaged self.old) (known_by B.base B.damaged self.new)) }
+        ensures refused { IfErr result (Refuses (status_cause B.sound table.0) (known_by B.base B.damaged self.old) (known_by B.base B.damaged self.new)) }
         ensures counts { MakesNoCall self.old self.new }
         ensures blames { IfErr result (Blames self.old self.new) }
     {

@@ -105,12 +105,12 @@ impl<D: CountsCalls, C: Clock, B: Based + Founded> Steps for Server<D, C, B> {
         requires path { CanLook p.now path.now }
         ensures unlooked { (known_by B.base B.damaged self.old).alone ≡ true → (i : Number) → path.now.by ≡ ByIndex i → rows_looked self.new.groups ≡ rows_looked self.old.groups }
         ensures looked_each { IfOk result (λ c. (known_by B.base B.damaged self.old).alone ≡ true → path.now.by ≡ ByTable → HasRisenBy (length c.found) (rows_looked self.old.groups) (rows_looked self.new.groups)) }
-        ensures doubts { IfOk result (λ c. (known_by B.base B.damaged self.old).alone ≡ true → AreDoubtful (have_doubt self.new.groups) p.now c.found) }
+        ensures doubts { IfOk result (λ c. (known_by B.base B.damaged self.old).alone ≡ true → B.sound → AreDoubtful (have_doubt self.new.groups) p.now c.found) }
         ensures ok { IfOk result (DidLook B.sound (known_by B.base B.damaged self.old) (known_by B.base B.damaged self.new) p.now path.now after.now) }
         ensures versions { IfOk result (λ c. (i : Number) → path.now.by ≡ ByIndex i → AreOfIndexAt self.old.groups p.now i c.found) }
         ensures no_row { (i : Number) → path.now.by ≡ ByIndex i → map rows_in self.new.groups ≡ map rows_in self.old.groups }
         ensures counted { IfOk result (λ c. HasCountedOf self.old.groups self.new.groups p.now path.now.by (length c.found)) }
-        ensures refused { IfErr result (Refuses read_cause (known_by B.base B.damaged self.old) (known_by B.base B.damaged self.new)) }
+        ensures refused { IfErr result (Refuses (read_cause B.sound) (known_by B.base B.damaged self.old) (known_by B.base B.damaged self.new)) }
     {
         Server::look(self, p, path, after)
     }
@@ -123,7 +123,7 @@ impl<D: CountsCalls, C: Clock, B: Based + Founded> Steps for Server<D, C, B> {
         ensures ok { IfOk result (DidConsult B.sound (known_by B.base B.damaged self.old) (known_by B.base B.damaged self.new) p.now d.old d.new) }
         ensures same { IfErr result (λ f. d.new ≡ d.old) }
         ensures counted { rows_looked self.new.groups ≤ rows_looked self.old.groups + 1 }
-        ensures refused { IfErr result (Refuses read_cause (known_by B.base B.damaged self.old) (known_by B.base B.damaged self.new)) }
+        ensures refused { IfErr result (Refuses (read_cause B.sound) (known_by B.base B.damaged self.old) (known_by B.base B.damaged self.new)) }
     {
         Server::consult(self, p, d)
     }
@@ -137,7 +137,7 @@ impl<D: CountsCalls, C: Clock, B: Based + Founded> Steps for Server<D, C, B> {
         ensures ok { IfOk result (DidFix (known_by B.base B.damaged self.old) (known_by B.base B.damaged self.new) d.now) }
         ensures fixes { IfOk result (Mends self.old.groups self.new.groups d.now) }
         ensures counted { rows_looked self.new.groups ≤ rows_looked self.old.groups + 1 }
-        ensures refused { IfErr result (Refuses fix_cause (known_by B.base B.damaged self.old) (known_by B.base B.damaged self.new)) }
+        ensures refused { IfErr result (Refuses (fix_cause B.sound) (known_by B.base B.damaged self.old) (known_by B.base B.damaged self.new)) }
         ensures caused { IfErr result (RefusesFix self.old.groups d.now) }
     {
         Server::fix(self, d)

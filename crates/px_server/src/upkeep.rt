@@ -241,7 +241,7 @@ impl<D: CountsCalls, C: Clock, B: Based + Founded> Server<D, C, B> {
         ensures doubts { IfOk result (λ _. (p : Points) → (v : IndexVersion) → have_doubt self.new.groups p v ≡ have_doubt self.old.groups p v) }
         ensures done { IfOk result (λ work. IsIdleWork work → (job : Orders) → IsDoneBy self.new job) }
         ensures ordered { IfOk result (λ work. (job : Orders) → IsOrderedBy self.old job → IsOrderedBy self.new job) }
-        ensures refused { IfErr result (Refuses upkeep_cause (known_by B.base B.damaged self.old) (known_by B.base B.damaged self.new)) }
+        ensures refused { IfErr result (Refuses (upkeep_cause B.sound) (known_by B.base B.damaged self.old) (known_by B.base B.damaged self.new)) }
         ensures counts { MakesAtMost 4 self.old self.new }
         ensures blames { IfErr result (Blames self.old self.new) }
     {
@@ -268,7 +268,7 @@ impl<D: CountsCalls, C: Clock, B: Based + Founded> Server<D, C, B> {
         ensures doubts { IfOk result (λ _. (p : Points) → HasOpen (known_by B.base B.damaged self.old) p → (v : IndexVersion) → have_doubt self.new.groups p v ≡ have_doubt self.old.groups p v) }
         ensures done { IfOk result (λ work. IsIdleWork work → (job : Orders) → IsDoneBy self.new job) }
         ensures ordered { IfOk result (λ work. (job : Orders) → IsOrderedBy self.old job → IsOrderedBy self.new job) }
-        ensures refused { IfErr result (Refuses upkeep_cause (known_by B.base B.damaged self.old) (known_by B.base B.damaged self.new)) }
+        ensures refused { IfErr result (Refuses (upkeep_cause B.sound) (known_by B.base B.damaged self.old) (known_by B.base B.damaged self.new)) }
         ensures counts { MakesNoCall self.old self.new }
         ensures blames { IfErr result (Blames self.old self.new) }
     {
@@ -289,7 +289,7 @@ impl<D: CountsCalls, C: Clock, B: Based + Founded> Server<D, C, B> {
         ensures doubts { IfOk result (λ _. (p : Points) → HasOpen (known_by B.base B.damaged self.old) p → (v : IndexVersion) → have_doubt self.new.groups p v ≡ have_doubt self.old.groups p v) }
         ensures done { IfOk result (λ work. IsIdleWork work → (job : Orders) → IsDoneBy self.new job) }
         ensures ordered { IfOk result (λ work. (job : Orders) → IsOrderedBy self.old job → IsOrderedBy self.new job) }
-        ensures refused { IfErr result (Refuses upkeep_cause (known_by B.base B.damaged self.old) (known_by B.base B.damaged self.new)) }
+        ensures refused { IfErr result (Refuses (upkeep_cause B.sound) (known_by B.base B.damaged self.old) (known_by B.base B.damaged self.new)) }
         ensures counts { MakesAtMost 4 self.old self.new }
         ensures blames { IfErr result (Blames self.old self.new) }
     {
@@ -311,7 +311,7 @@ impl<D: CountsCalls, C: Clock, B: Based + Founded> Server<D, C, B> {
         ensures doubts { IfOk result (λ _. (p : Points) → HasOpen (known_by B.base B.damaged self.old) p → (v : IndexVersion) → have_doubt self.new.groups p v ≡ have_doubt self.old.groups p v) }
         ensures done { IfOk result (λ work. IsIdleWork work → (job : Orders) → IsDoneBy self.new job) }
         ensures ordered { IfOk result (λ work. (job : Orders) → IsOrderedBy self.old job → IsOrderedBy self.new job) }
-        ensures refused { IfErr result (Refuses upkeep_cause (known_by B.base B.damaged self.old) (known_by B.base B.damaged self.new)) }
+        ensures refused { IfErr result (Refuses (upkeep_cause B.sound) (known_by B.base B.damaged self.old) (known_by B.base B.damaged self.new)) }
         ensures counts { MakesNoCall self.old self.new }
         ensures blames { IfErr result (Blames self.old self.new) }
     {
@@ -340,7 +340,7 @@ impl<D: CountsCalls, C: Clock, B: Based + Founded> Server<D, C, B> {
         ensures doubts { IfOk result (λ _. (p : Points) → HasOpen (known_by B.base B.damaged self.old) p → (v : IndexVersion) → have_doubt self.new.groups p v ≡ have_doubt self.old.groups p v) }
         ensures done { IfOk result (λ work. IsIdleWork work → (job : Orders) → IsDoneBy self.new job) }
         ensures ordered { IfOk result (λ work. (job : Orders) → IsOrderedBy self.old job → IsOrderedBy self.new job) }
-        ensures refused { IfErr result (Refuses upkeep_cause (known_by B.base B.damaged self.old) (known_by B.base B.damaged self.new)) }
+        ensures refused { IfErr result (Refuses (upkeep_cause B.sound) (known_by B.base B.damaged self.old) (known_by B.base B.damaged self.new)) }
         ensures counts { MakesAtMost 4 self.old self.new }
         ensures blames { IfErr result (Blames self.old self.new) }
     {

@@ -15,6 +15,9 @@ use Rattle.px_group.specs.declared.group.IndexRegion.{IndexRegion}
 use Rattle.px_basing.specs.declared.fault.BaseFault.TheVariants.{WriteFault}
 use Rattle.px_baserows.specs.Rows.{owners_in}
 use Rattle.px_standing.proofs.Looked.{lacks}
+use Rattle.px_region.specs.OnlyRead.{HasOnlyRead}
+use Rattle.px_region.proofs.OnlyRead.{reads_none}
+use Rattle.px_repairs.specs.Repairs.{HasOnlyLooked}
 use Rattle.px_repairs.proofs.Handing.{got_some}
 use Rattle.px_server.specs.Kept.{IsKept}
 use Rattle.px_server.specs.Shown.{Shown, known_by, shown_of}
@@ -266,9 +269,10 @@ invariant_of-self-in-Err g c =
     let named : (x : IndexRegion) → slice_get h.indexes.items at ≡ Some x → x.index.id ≡ c.args.index = λ x there. c.in-Some-index_place.ensures.found.1 x (ap (λ (y : Group). slice_get y.indexes.items at) one ∙ there) in
     let xs : List BaseRow = c.as_slice.result.now in
     let other : c.in-Err.fault ≡ WriteFault → ⊥ = λ e. search rules in
-    let stayed = bases_stayed g.D.Disk h c.base-based.new.group s.disk c.base-based.new.disk at xs c.base-based.result c.in-Err.fault c.in-Err.is other c.base-based.ensures.bases in (
+    let stayed = bases_stayed g.D.Disk h c.base-based.new.group s.disk c.base-based.new.disk at xs c.base-based.result c.in-Err.fault c.in-Err.is other c.base-based.ensures.bases in
+    let only : HasOnlyLooked g.D.Disk h c.base-based.new.group s.disk c.base-based.new.disk = record { looked = stayed.looked; reads = subst (HasOnlyRead g.D.Disk s.disk) (sym stayed.untouched) (reads_none g.D.Disk g.met.D.Disk.up_to_now s.disk) } in (
       roomy g.D.Disk b g.B.Founded.sound g.B.Founded.premise g.B.Founded.began c.base-based.new.disk s.catalog s.standing (slice_set s.groups.items place c.base-based.new.group) s.trail s.late s.closed
-          (fix_stayed g.D.Disk g.met.D.Disk.told g.met.D.Disk.up_to_now b g.B.Founded.sound g.B.Founded.premise g.B.Founded.began s.disk s.catalog s.standing s.groups.items s.trail s.late s.closed k running place h c.base-based.new.group l h_is c.base-based.new.disk stayed)
+          (fix_stayed g.D.Disk g.met.D.Disk.told g.met.D.Disk.up_to_now b g.B.Founded.sound g.B.Founded.premise g.B.Founded.began s.disk s.catalog s.standing s.groups.items s.trail s.late s.closed k running place h c.base-based.new.group l h_is c.base-based.new.disk only)
           c.give_back.new.self (c.give_back.ensures.same ∙ c.reserve.ensures.same) (let r = c.give_back.ensures.room in let o : c.reserve.new.self.room ≡ s.trail.room + 1 = search rules in omega (arith, r, o)),
       (c.self.invariant.1.0, same_by_clock g.C.Clock g.B.Founded.times g.B.Based.base g.B.Founded.lookback s.lookback s.clock s.trail.entries c.self.invariant.1.1 c.give_back.new.self.entries (c.give_back.ensures.same ∙ c.reserve.ensures.same)),
     )

@@ -111,9 +111,9 @@ returns-in_err-raise_table-clause-refused g c =
     let running : s.closed ≡ None = ap (λ (w : Shown). w.closed) c.self.view_is ∙ c.requires.running in
     let r = c.in_err-raise_table.ensures.refused in
     let p = err_from_is_err_and c.from_residual.result c.from_residual.ensures.1 in
-    rw p.1 (subst (λ (f : StepFault). Refuses upkeep_cause (known_by b g.B.Based.damaged c.args.self.now) (known_by b g.B.Based.damaged (record v { entries = c.raise_table.new.trail.entries })) f) (sym (p.2 ∙ r.0))
-    (subst (λ (t : Recorded). Refuses upkeep_cause (known_by b g.B.Based.damaged c.args.self.now) (known_by b g.B.Based.damaged (record v { entries = t.entries })) Memory) (sym r.1.1)
-    (subst (λ (w : Shown). Refuses upkeep_cause (known_by b g.B.Based.damaged w) (known_by b g.B.Based.damaged v) Memory) c.self.view_is (work_no_memory (known_by b g.B.Based.damaged v) told.legal (told.closing ∙ running)))))
+    rw p.1 (subst (λ (f : StepFault). Refuses (upkeep_cause g.B.Founded.sound) (known_by b g.B.Based.damaged c.args.self.now) (known_by b g.B.Based.damaged (record v { entries = c.raise_table.new.trail.entries })) f) (sym (p.2 ∙ r.0))
+    (subst (λ (t : Recorded). Refuses (upkeep_cause g.B.Founded.sound) (known_by b g.B.Based.damaged c.args.self.now) (known_by b g.B.Based.damaged (record v { entries = t.entries })) Memory) (sym r.1.1)
+    (subst (λ (w : Shown). Refuses (upkeep_cause g.B.Founded.sound) (known_by b g.B.Based.damaged w) (known_by b g.B.Based.damaged v) Memory) c.self.view_is (work_no_memory (known_by b g.B.Based.damaged v) told.legal g.B.Founded.sound (told.closing ∙ running)))))
 
 pub returns-in_err-raise_table-clause-unlooked : goal.returns-in_err-raise_table-clause-unlooked
 returns-in_err-raise_table-clause-unlooked g c =

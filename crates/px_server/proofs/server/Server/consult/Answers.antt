@@ -1,9 +1,9 @@
-use Rattle.std.proofs.Common.{refl, rules, ◌≡◌, ◌∙◌, ◌+◌, ◌<◌, ◌≤◌, ℕ, None, Some, length, ap, sym, subst}
+use Rattle.std.proofs.Common.{refl, rules, ◌≡◌, ◌∙◌, ◌+◌, ◌<◌, ◌≤◌, ℕ, None, Some, Err, List, length, ap, sym, subst, arith}
 use Rattle.std.specs.List.{slice_set}
 use Rattle.px_calls.specs.Calls.{DidConsult}
 use Rattle.px_calls.specs.Causes.{Refuses, read_cause}
 use Rattle.px_calls.specs.declared.fault.StepFault.TheVariants.{Closed, Memory}
-use Rattle.px_server.specs.Kept.{HasTallied, IsKept}
+use Rattle.px_server.specs.Kept.{HasTallied}
 use Rattle.px_group.specs.declared.group.Group.{Group}
 use Rattle.px_server.specs.Looks.{rows_looked}
 use Rattle.px_server.specs.Shown.{Shown, known_by, shown_of}
@@ -12,10 +12,18 @@ use Rattle.px_server.proofs.Found.{closed_by}
 use Rattle.px_server.proofs.Lists.{all_at, sum_set}
 use Rattle.px_server.proofs.Looked.{looked_kept}
 use Rattle.px_server.proofs.ReadAt.{did_consult, inside, no_memory, read_at}
+use Rattle.px_server.proofs.OnlyRead.{read_kept}
 use Rattle.px_server.proofs.Released.{none_of}
 use Rattle.px_server.proofs.Sighted.{looked_table, put_tables}
-use Rattle.px_server.proofs.DeviceCalls.{none_by}
-use Rattle.px_server.proofs.server.Server.consult.Goals.{in-Ok, in-Err}
+use Rattle.px_region.specs.declared.fault.LookFault.TheVariants as look
+use Rattle.px_server.specs.DeviceCalls.{Blames, HasFailedIn}
+use Rattle.px_server.specs.inner.Missing.{TellsFault}
+use Rattle.px_trail.specs.declared.entry.Entry.{Entry}
+use Rattle.px_server.proofs.Reserved.{roomy}
+use Rattle.px_server.proofs.Stamping.{same_by_clock}
+use Rattle.px_server.proofs.Blamed.{failed_rose}
+use Rattle.px_server.proofs.DeviceCalls.{none_by, rose_by, unread_blames}
+use Rattle.px_server.proofs.Missed.{told_as, told_by_clock, told_set, unread_refused, unread_was}
 use Rattle.px_server.proofs.server.Server.consult.Goals as goal
 
 pub returns-in-Some-clause-refused : goal.returns-in-Some-clause-refused
@@ -23,7 +31,7 @@ returns-in-Some-clause-refused g c =
     let s = c.self.inside in
     let told = c.self.invariant.0.told in
     let v : Shown = shown_of s.seat s.trail.entries s.late s.closed s.groups.items s.lookback s.raising (g.D.Disk.calls s.disk) (g.D.Disk.faults s.disk) in
-    subst (λ (w : Shown). Refuses read_cause (known_by g.B.Based.base g.B.Based.damaged w) (known_by g.B.Based.base g.B.Based.damaged w) (Closed c.in-Some.call)) c.self.view_is
+    subst (λ (w : Shown). Refuses (read_cause g.B.Founded.sound) (known_by g.B.Based.base g.B.Based.damaged w) (known_by g.B.Based.base g.B.Based.damaged w) (Closed c.in-Some.call)) c.self.view_is
     (closed_by (known_by g.B.Based.base g.B.Based.damaged v) told.legal s.closed told.closing c.in-Some.call c.in-Some.is)
 
 pub returns-in_default-point_place-clause-refused : goal.returns-in_default-point_place-clause-refused
@@ -32,23 +40,39 @@ returns-in_default-point_place-clause-refused g c =
     let told = c.self.invariant.0.told in
     let v : Shown = shown_of s.seat s.trail.entries s.late s.closed s.groups.items s.lookback s.raising (g.D.Disk.calls s.disk) (g.D.Disk.faults s.disk) in
     let running : s.closed ≡ None = none_of s.closed (λ x is. search rules) in
-    subst (λ (w : Shown). Refuses read_cause (known_by g.B.Based.base g.B.Based.damaged w) (known_by g.B.Based.base g.B.Based.damaged w) Memory) c.self.view_is
-    (no_memory (known_by g.B.Based.base g.B.Based.damaged v) told.legal s.closed told.closing running)
+    subst (λ (w : Shown). Refuses (read_cause g.B.Founded.sound) (known_by g.B.Based.base g.B.Based.damaged w) (known_by g.B.Based.base g.B.Based.damaged w) Memory) c.self.view_is
+    (no_memory (known_by g.B.Based.base g.B.Based.damaged v) told.legal s.closed told.closing running g.B.Founded.sound)
 
 pub consult-requires-clause-at : goal.consult-requires-clause-at
 consult-requires-clause-at g c = read_at c.args.p.now c.self.inside.groups.items c.deref.result.now c.in-Some-point_place.place c.index_mut-group.result.now _ c.deref.ensures.value c.in-Some-point_place.ensures.within c.in-Some-point_place.ensures.read c.index_mut-group.ensures.value
 
-pub invariant_of-self : goal.invariant_of-self
-invariant_of-self g c =
+pub returns-then-is_err-clause-refused : goal.returns-then-is_err-clause-refused
+returns-then-is_err-clause-refused g c =
     let s = c.self.inside in
-    let l : c.in-Some-point_place.place < length s.groups.items = inside s.groups.items c.deref.result.now c.in-Some-point_place.place c.deref.ensures.value c.in-Some-point_place.ensures.within in (
-      subst (λ x. IsKept g.D.Disk g.B.Based.base g.B.Founded.sound g.B.Founded.premise g.B.Founded.began x s.catalog s.standing (slice_set s.groups.items c.in-Some-point_place.place c.consult.new.group) s.trail s.late s.closed) (sym c.consult.ensures.untouched)
-          (looked_kept g.D.Disk g.B.Based.base g.B.Founded.sound g.B.Founded.premise g.B.Founded.began s.disk s.catalog s.standing s.groups.items s.trail s.late s.closed c.self.invariant.0 c.in-Some-point_place.place c.index_mut-group.result.now c.consult.new.group l (sym c.index_mut-group.ensures.value) c.consult.ensures.looked),
-      c.self.invariant.1,
+    let told = c.self.invariant.0.told in
+    let v : Shown = shown_of s.seat s.trail.entries s.late s.closed s.groups.items s.lookback s.raising (g.D.Disk.calls s.disk) (g.D.Disk.faults s.disk) in
+    let k = known_by g.B.Based.base g.B.Based.damaged v in
+    let running : s.closed ≡ None = none_of s.closed (λ x is. search rules) in
+    subst (λ (w : Shown). Refuses (read_cause g.B.Founded.sound) (known_by g.B.Based.base g.B.Based.damaged w) (record k { seen = c.reserve.new.self.entries }) Memory) c.self.view_is
+    (subst (λ (es : List Entry). Refuses (read_cause g.B.Founded.sound) k (record k { seen = es }) Memory) (sym c.reserve.ensures.same)
+    (no_memory k told.legal s.closed told.closing running g.B.Founded.sound))
+
+pub invariant_of-self-in-Ok : goal.invariant_of-self-in-Ok
+invariant_of-self-in-Ok g c =
+    let s = c.self.inside in
+    let place = c.in-Some-point_place.place in
+    let running : s.closed ≡ None = none_of s.closed (λ x is. search rules) in
+    let l : place < length s.groups.items = inside s.groups.items c.deref.result.now place c.deref.ensures.value c.in-Some-point_place.ensures.within in
+    let kept = read_kept g.D.Disk s.disk c.consult.new.disk c.consult.ensures.only_read g.met.D.Disk.told g.met.D.Disk.up_to_now g.B.Based.base g.B.Founded.sound g.B.Founded.premise g.B.Founded.began s.catalog s.standing (slice_set s.groups.items place c.consult.new.group) s.trail s.late s.closed
+    (looked_kept g.D.Disk g.B.Based.base g.B.Founded.sound g.B.Founded.premise g.B.Founded.began s.disk s.catalog s.standing s.groups.items s.trail s.late s.closed c.self.invariant.0 place c.index_mut-group.result.now c.consult.new.group l (sym c.index_mut-group.ensures.value) c.consult.ensures.looked) running in
+    let same : c.give_back.new.self.entries ≡ s.trail.entries = c.give_back.ensures.same ∙ c.reserve.ensures.same in (
+      roomy g.D.Disk g.B.Based.base g.B.Founded.sound g.B.Founded.premise g.B.Founded.began c.consult.new.disk s.catalog s.standing (slice_set s.groups.items place c.consult.new.group) s.trail s.late s.closed kept c.give_back.new.self same
+          (let r = c.give_back.ensures.room in let o : c.reserve.new.self.room ≡ s.trail.room + 1 = search rules in omega (arith, r, o)),
+      (c.self.invariant.1.0, same_by_clock g.C.Clock g.B.Founded.times g.B.Based.base g.B.Founded.lookback s.lookback s.clock s.trail.entries c.self.invariant.1.1 c.give_back.new.self.entries same),
     )
 
-pub returns-clause-ok : goal.returns-clause-ok
-returns-clause-ok g c =
+pub returns-in-Ok-clause-ok : goal.returns-in-Ok-clause-ok
+returns-in-Ok-clause-ok g c =
     let s = c.self.inside in
     let b = g.B.Based.base in
     let k = c.self.invariant.0 in
@@ -56,30 +80,23 @@ returns-clause-ok g c =
     let v : Shown = shown_of s.seat s.trail.entries s.late s.closed s.groups.items s.lookback s.raising (g.D.Disk.calls s.disk) (g.D.Disk.faults s.disk) in
     let running : s.closed ≡ None = none_of s.closed (λ x is. search rules) in
     let l : c.in-Some-point_place.place < length s.groups.items = inside s.groups.items c.deref.result.now c.in-Some-point_place.place c.deref.ensures.value c.in-Some-point_place.ensures.within in
-    elim c.match-consult.branch [
-      | in-Ok w ↦ rw (w.result-is, w.d-is) (subst (λ (u : Shown). DidConsult g.B.Founded.sound (known_by b g.B.Based.damaged u) (known_by b g.B.Based.damaged v) c.args.p.now c.args.d.now (record c.args.d.now { verdict = Some w.verdict_of.result }) w.held.result) c.self.view_is
-          (did_consult (known_by b g.B.Based.damaged v) told.legal s.closed told.closing running g.B.Founded.sound s.standing.indexes s.groups.items c.in-Some-point_place.place c.index_mut-group.result.now l (sym c.index_mut-group.ensures.value) (λ given. k.shown given running)
-          (all_at (HasTallied b s.trail.entries) s.groups.items c.in-Some-point_place.place c.index_mut-group.result.now l (sym c.index_mut-group.ensures.value) (k.each.tallied running))
-          c.args.p.now c.args.d.now w.verdict_of.result w.in-Ok.consulted.verdict w.verdict_of.ensures w.held.result w.in-Ok.consulted.row w.held.ensures.none
-          (λ r e. w.held.ensures.some r e ∙ ap (λ (n : ℕ). Some (record { row = r; at = n })) w.len.ensures) w.in-Ok.ensures.row w.in-Ok.ensures.leave))
-      | in-Err w ↦ rw w.result-is tt
-    ]
+    let same : c.give_back.new.self.entries ≡ s.trail.entries = c.give_back.ensures.same ∙ c.reserve.ensures.same in
+    subst (λ (u : Shown). DidConsult g.B.Founded.sound (known_by b g.B.Based.damaged u) (known_by b g.B.Based.damaged (record v { entries = c.give_back.new.self.entries })) c.args.p.now c.args.d.now (record c.args.d.now { verdict = Some c.verdict_of.result }) c.held.result) c.self.view_is
+    (subst (λ (es : List Entry). DidConsult g.B.Founded.sound (known_by b g.B.Based.damaged v) (known_by b g.B.Based.damaged (record v { entries = es })) c.args.p.now c.args.d.now (record c.args.d.now { verdict = Some c.verdict_of.result }) c.held.result) (sym same)
+    (did_consult (known_by b g.B.Based.damaged v) told.legal s.closed told.closing running g.B.Founded.sound s.standing.indexes s.groups.items c.in-Some-point_place.place c.index_mut-group.result.now l (sym c.index_mut-group.ensures.value) (λ given. k.shown given running)
+    (all_at (HasTallied b s.trail.entries) s.groups.items c.in-Some-point_place.place c.index_mut-group.result.now l (sym c.index_mut-group.ensures.value) (k.each.tallied running))
+    c.args.p.now c.args.d.now c.verdict_of.result c.in-Ok.consulted.verdict c.verdict_of.ensures c.held.result c.in-Ok.consulted.row c.held.ensures.none
+    (λ r e. c.held.ensures.some r e ∙ ap (λ (n : ℕ). Some (record { row = r; at = n })) (c.len.ensures ∙ ap (length {A = Entry}) same)) c.in-Ok.ensures.row c.in-Ok.ensures.leave))
 
-pub returns-clause-refused : goal.returns-clause-refused
-returns-clause-refused g c =
+pub returns-in-Ok-clause-counted : goal.returns-in-Ok-clause-counted
+returns-in-Ok-clause-counted g c =
     let s = c.self.inside in
-    let b = g.B.Based.base in
-    let told = c.self.invariant.0.told in
-    let v : Shown = shown_of s.seat s.trail.entries s.late s.closed s.groups.items s.lookback s.raising (g.D.Disk.calls s.disk) (g.D.Disk.faults s.disk) in
-    let running : s.closed ≡ None = none_of s.closed (λ x is. search rules) in
-    elim c.match-consult.branch [
-      | in-Ok w ↦ rw w.result-is tt
-      | in-Err w ↦ rw w.result-is (subst (λ (u : Shown). Refuses read_cause (known_by b g.B.Based.damaged u) (known_by b g.B.Based.damaged v) Memory) c.self.view_is
-          (no_memory (known_by b g.B.Based.damaged v) told.legal s.closed told.closing running))
-    ]
+    let l : c.in-Some-point_place.place < length s.groups.items = inside s.groups.items c.deref.result.now c.in-Some-point_place.place c.deref.ensures.value c.in-Some-point_place.ensures.within in
+    subst (λ (u : Shown). rows_looked (slice_set s.groups.items c.in-Some-point_place.place c.consult.new.group) ≤ rows_looked u.groups + 1) c.self.view_is
+    (sum_set (λ (h : Group). h.rows.looked) s.groups.items c.in-Some-point_place.place c.index_mut-group.result.now c.consult.new.group l (sym c.index_mut-group.ensures.value) c.consult.ensures.counted)
 
-pub returns-clause-counted : goal.returns-clause-counted
-returns-clause-counted g c =
+pub returns-in-Err-clause-counted : goal.returns-in-Err-clause-counted
+returns-in-Err-clause-counted g c =
     let s = c.self.inside in
     let l : c.in-Some-point_place.place < length s.groups.items = inside s.groups.items c.deref.result.now c.in-Some-point_place.place c.deref.ensures.value c.in-Some-point_place.ensures.within in
     subst (λ (u : Shown). rows_looked (slice_set s.groups.items c.in-Some-point_place.place c.consult.new.group) ≤ rows_looked u.groups + 1) c.self.view_is
@@ -91,8 +108,18 @@ returns-in-Some-clause-doubts g c = λ q v. refl
 pub returns-in_default-point_place-clause-doubts : goal.returns-in_default-point_place-clause-doubts
 returns-in_default-point_place-clause-doubts g c = λ q v. refl
 
-pub returns-clause-doubts : goal.returns-clause-doubts
-returns-clause-doubts g c = λ q v.
+pub returns-then-is_err-clause-doubts : goal.returns-then-is_err-clause-doubts
+returns-then-is_err-clause-doubts g c = λ q v. subst (λ (u : Shown). have_doubt c.self.inside.groups.items q v ≡ have_doubt u.groups q v) c.self.view_is refl
+
+pub returns-in-Ok-clause-doubts : goal.returns-in-Ok-clause-doubts
+returns-in-Ok-clause-doubts g c = λ q v.
+    let s = c.self.inside in
+    let l : c.in-Some-point_place.place < length s.groups.items = inside s.groups.items c.deref.result.now c.in-Some-point_place.place c.deref.ensures.value c.in-Some-point_place.ensures.within in
+    subst (λ (u : Shown). have_doubt (slice_set s.groups.items c.in-Some-point_place.place c.consult.new.group) q v ≡ have_doubt u.groups q v) c.self.view_is
+    (put_tables q v s.groups.items c.in-Some-point_place.place c.index_mut-group.result.now c.consult.new.group l (sym c.index_mut-group.ensures.value) (looked_table q v c.index_mut-group.result.now c.consult.new.group c.consult.ensures.looked))
+
+pub returns-in-Err-clause-doubts : goal.returns-in-Err-clause-doubts
+returns-in-Err-clause-doubts g c = λ q v.
     let s = c.self.inside in
     let l : c.in-Some-point_place.place < length s.groups.items = inside s.groups.items c.deref.result.now c.in-Some-point_place.place c.deref.ensures.value c.in-Some-point_place.ensures.within in
     subst (λ (u : Shown). have_doubt (slice_set s.groups.items c.in-Some-point_place.place c.consult.new.group) q v ≡ have_doubt u.groups q v) c.self.view_is
@@ -100,5 +127,46 @@ returns-clause-doubts g c = λ q v.
 
 -- ---- the calls of the disk
 
-pub returns-clause-counts : goal.returns-clause-counts
-returns-clause-counts g c = none_by c.self.view_is (ap g.D.Disk.calls c.consult.ensures.untouched) (ap g.D.Disk.faults c.consult.ensures.untouched)
+pub returns-in-Ok-clause-counts : goal.returns-in-Ok-clause-counts
+returns-in-Ok-clause-counts g c = none_by c.self.view_is c.consult.ensures.only_read.calls c.consult.ensures.only_read.faults
+
+pub returns-in-Err-clause-counts : goal.returns-in-Err-clause-counts
+returns-in-Err-clause-counts g c = none_by c.self.view_is c.consult.ensures.only_read.calls c.consult.ensures.only_read.faults
+
+-- ---- why nothing was read
+
+pub invariant_of-self-in-Err : goal.invariant_of-self-in-Err
+invariant_of-self-in-Err g c =
+    let s = c.self.inside in
+    let place = c.in-Some-point_place.place in
+    let running : s.closed ≡ None = none_of s.closed (λ x is. search rules) in
+    let l : place < length s.groups.items = inside s.groups.items c.deref.result.now place c.deref.ensures.value c.in-Some-point_place.ensures.within in
+    let kept = read_kept g.D.Disk s.disk c.consult.new.disk c.consult.ensures.only_read g.met.D.Disk.told g.met.D.Disk.up_to_now g.B.Based.base g.B.Founded.sound g.B.Founded.premise g.B.Founded.began s.catalog s.standing (slice_set s.groups.items place c.consult.new.group) s.trail s.late s.closed
+    (looked_kept g.D.Disk g.B.Based.base g.B.Founded.sound g.B.Founded.premise g.B.Founded.began s.disk s.catalog s.standing s.groups.items s.trail s.late s.closed c.self.invariant.0 place c.index_mut-group.result.now c.consult.new.group l (sym c.index_mut-group.ensures.value) c.consult.ensures.looked) running in
+    let tells = subst (λ (es : List Entry). TellsFault s.seat c.call_count-calls.result es c.told.new.trail.entries c.unread.result c.told.result) c.reserve.ensures.same c.told.ensures.told in (
+      told_set g.D.Disk g.met.D.Disk.told g.met.D.Disk.up_to_now g.B.Based.base g.B.Founded.sound g.B.Founded.premise g.B.Founded.began c.consult.new.disk s.catalog s.standing s.groups.items place c.consult.new.group l s.trail s.late s.closed kept running s.seat c.call_count-calls.result c.call_count-calls.ensures
+          c.told.new.trail (let r = c.told.ensures.room in let o : c.reserve.new.self.room ≡ s.trail.room + 1 = search rules in omega (arith, r, o)) c.unread.result c.told.result
+          (λ same. failed_rose g.D.Disk s.disk c.consult.new.disk (c.consult.ensures.failed (c.in-Err.is ∙ ap Err (unread_was c.in-Err.fault (sym c.unread.ensures ∙ same))))) tells,
+      (c.self.invariant.1.0, told_by_clock g.C.Clock g.B.Founded.times g.B.Based.base g.B.Founded.lookback s.lookback s.clock s.trail.entries c.self.invariant.1.1 s.seat c.call_count-calls.result c.told.new.trail.entries c.unread.result c.told.result tells),
+    )
+
+pub returns-in-Err-clause-refused : goal.returns-in-Err-clause-refused
+returns-in-Err-clause-refused g c =
+    let s = c.self.inside in
+    let b = g.B.Based.base in
+    let told = c.self.invariant.0.told in
+    let running : s.closed ≡ None = none_of s.closed (λ x is. search rules) in
+    let v : Shown = shown_of s.seat s.trail.entries s.late s.closed s.groups.items s.lookback s.raising (g.D.Disk.calls s.disk) (g.D.Disk.faults s.disk) in
+    let k = known_by b g.B.Based.damaged v in
+    let tells = subst (λ (es : List Entry). TellsFault s.seat c.call_count-calls.result es c.told.new.trail.entries c.unread.result c.told.result) c.reserve.ensures.same c.told.ensures.told in
+    subst (λ (u : Shown). Refuses (read_cause g.B.Founded.sound) (known_by b g.B.Based.damaged u) (record k { seen = c.told.new.trail.entries }) c.told.result) c.self.view_is
+    (unread_refused k told.legal (told.closing ∙ running) g.B.Founded.sound c.call_count-calls.result c.told.new.trail.entries (invariant_of-self-in-Err g c).0.told.legal
+    c.in-Err.fault (λ file at same. c.consult.ensures.undamaged file at (c.in-Err.is ∙ ap Err same)) c.unread.result c.unread.ensures c.told.result tells)
+
+pub returns-in-Err-clause-blames : goal.returns-in-Err-clause-blames
+returns-in-Err-clause-blames g c =
+    let s = c.self.inside in
+    let new : Shown = record c.args.self.now { calls = g.D.Disk.calls c.consult.new.disk; faults = g.D.Disk.faults c.consult.new.disk } in
+    let failed : c.in-Err.fault ≡ look.ReadFault → HasFailedIn c.args.self.now new = λ same. rose_by g.D.Disk s.disk c.consult.new.disk (c.consult.ensures.failed (c.in-Err.is ∙ ap Err same)) c.self.view_is refl in
+    told_as (Blames c.args.self.now new) s.seat c.call_count-calls.result c.reserve.new.self.entries c.told.new.trail.entries c.unread.result c.told.result c.told.ensures.told (λ same. failed (unread_was c.in-Err.fault (sym c.unread.ensures ∙ same))) tt
+    (subst (Blames c.args.self.now new) (sym c.unread.ensures) (unread_blames c.args.self.now new c.in-Err.fault failed))

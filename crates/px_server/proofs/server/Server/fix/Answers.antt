@@ -1,5 +1,5 @@
 use Rattle.std.proofs.Common.{rules, ◌≡◌, ◌∙◌, ◌<◌, None, List, length, sym, subst, arith}
-use Rattle.std.proofs.Common.{◌≢◌, true, ◌≤◌, ◌+◌, ◌++◌, ◌∷◌, [], ap, get_or, inl, Some, refl}
+use Rattle.std.proofs.Common.{◌≢◌, true, ◌≤◌, ◌+◌, ◌++◌, ◌∷◌, [], ap, get_or, inl, Some, Err, refl}
 use Rattle.std.specs.Prelude.{IfErr, IfOk, Option, ℕ}
 use Rattle.std.specs.List.{AllByRecursion, slice_set}
 use Rattle.px_calls.specs.Calls.{DidFix, Finds, IsInFlight}
@@ -13,7 +13,7 @@ use Rattle.px_server.specs.Looks.{rows_looked}
 use Rattle.px_server.specs.Sights.{have_doubt}
 use Rattle.px_calls.specs.Doubtful.{IndexVersion, IsForRoom, version_of}
 use Rattle.px_calls.specs.declared.query.Point.{Point}
-use Rattle.px_server.specs.Repairs.{Mends, RefusesFix, WritesNothing}
+use Rattle.px_server.specs.Repairs.{Mends, RefusesFix, AddsNoEntry}
 use Rattle.px_server.specs.Kept.{IsKept}
 use Rattle.px_repairs.specs.Refused.{RefusesRepair}
 use Rattle.px_repairs.specs.Repairs.{Fixes}
@@ -24,16 +24,22 @@ use Rattle.px_trail.specs.declared.entry.Act.TheVariants.{Fixed as FixedAct, Shu
 use Rattle.px_trail.specs.Legal.{IsLegal}
 use Rattle.px_server.proofs.Seen.{one_more}
 use Rattle.px_server.specs.Shown.{Shown, known_by, shown_of}
-use Rattle.px_server.proofs.Fixes.{doubt_at, answers_caused, answers_ok, answers_refused, failed_kept, failed_of, fix_stayed, fixed_flight, fixed_kept, fixed_mends, fixed_of, stayed, stayed_flight, stayed_mends}
+use Rattle.px_server.proofs.Fixes.{doubt_at, answers_caused, answers_ok, answers_refused, failed_kept, failed_of, fix_stayed, fixed_flight, fixed_kept, fixed_mends, fixed_of, missed_of, stayed, stayed_flight, stayed_mends}
 use Rattle.px_server.proofs.Found.{closed_by}
 use Rattle.px_server.proofs.Lists.{sum_set}
 use Rattle.px_server.proofs.ReadAt.{finds, inside}
+use Rattle.px_server.proofs.OnlyRead.{read_kept}
 use Rattle.px_server.proofs.Released.{none_of}
 use Rattle.px_server.proofs.Reserved.{roomy}
 use Rattle.px_server.proofs.Seen.{stays}
 use Rattle.px_server.proofs.Sighted.{answers_there, fixed_others, none_there, others_told, stayed_doubts, still_told}
 use Rattle.px_server.proofs.Stamping.{more_by_clock, same_by_clock}
+use Rattle.px_server.specs.DeviceCalls.{Blames}
+use Rattle.px_server.specs.inner.Missing.{Misses}
+use Rattle.px_server.proofs.Blamed.{failed_rose}
 use Rattle.px_server.proofs.DeviceCalls.{few_by, made_by, rose_by, fixed_passes, answered_blames}
+use Rattle.px_server.proofs.Missed.{misses_as, misses_by_clock, misses_refused, misses_set}
+use Rattle.px_repairs.specs.declared.repairing.RepairFault.TheVariants.{ReadFault}
 use Rattle.px_server.proofs.server.Server.fix.Goals as goal
 
 pub returns-in-Some-clause-refused : goal.returns-in-Some-clause-refused
@@ -41,7 +47,7 @@ returns-in-Some-clause-refused g c =
     let s = c.self.inside in
     let told = c.self.invariant.0.told in
     let v : Shown = shown_of s.seat s.trail.entries s.late s.closed s.groups.items s.lookback s.raising (g.D.Disk.calls s.disk) (g.D.Disk.faults s.disk) in
-    subst (λ (w : Shown). Refuses fix_cause (known_by g.B.Based.base g.B.Based.damaged w) (known_by g.B.Based.base g.B.Based.damaged w) (Closed c.in-Some.call)) c.self.view_is
+    subst (λ (w : Shown). Refuses (fix_cause g.B.Founded.sound) (known_by g.B.Based.base g.B.Based.damaged w) (known_by g.B.Based.base g.B.Based.damaged w) (Closed c.in-Some.call)) c.self.view_is
     (closed_by (known_by g.B.Based.base g.B.Based.damaged v) told.legal s.closed told.closing c.in-Some.call c.in-Some.is)
 
 pub returns-in_default-doubt_place-clause-ok : goal.returns-in_default-doubt_place-clause-ok
@@ -62,7 +68,7 @@ returns-in_default-copied-clause-refused g c =
     let told = c.self.invariant.0.told in
     let v : Shown = shown_of s.seat s.trail.entries s.late s.closed s.groups.items s.lookback s.raising (g.D.Disk.calls s.disk) (g.D.Disk.faults s.disk) in
     let running : s.closed ≡ None = none_of s.closed (λ x is. search rules) in
-    subst (λ (w : Shown). Refuses fix_cause (known_by g.B.Based.base g.B.Based.damaged w) (known_by g.B.Based.base g.B.Based.damaged w) Memory) c.self.view_is
+    subst (λ (w : Shown). Refuses (fix_cause g.B.Founded.sound) (known_by g.B.Based.base g.B.Based.damaged w) (known_by g.B.Based.base g.B.Based.damaged w) Memory) c.self.view_is
     (tt, stays (known_by g.B.Based.base g.B.Based.damaged v) told.legal, told.closing ∙ running)
 
 pub index-requires : goal.index-requires
@@ -79,8 +85,8 @@ returns-then-is_err-clause-refused g c =
     let told = k.told in
     let v : Shown = shown_of s.seat s.trail.entries s.late s.closed s.groups.items s.lookback s.raising (g.D.Disk.calls s.disk) (g.D.Disk.faults s.disk) in
     let running : s.closed ≡ None = none_of s.closed (λ x is. search rules) in
-    subst (λ (w : Shown). Refuses fix_cause (known_by b g.B.Based.damaged w) (known_by b g.B.Based.damaged (record v { entries = c.reserve.new.self.entries })) Memory) c.self.view_is
-    (subst (λ (es : List Entry). Refuses fix_cause (known_by b g.B.Based.damaged v) (known_by b g.B.Based.damaged (record v { entries = es })) Memory) (sym c.reserve.ensures.same)
+    subst (λ (w : Shown). Refuses (fix_cause g.B.Founded.sound) (known_by b g.B.Based.damaged w) (known_by b g.B.Based.damaged (record v { entries = c.reserve.new.self.entries })) Memory) c.self.view_is
+    (subst (λ (es : List Entry). Refuses (fix_cause g.B.Founded.sound) (known_by b g.B.Based.damaged v) (known_by b g.B.Based.damaged (record v { entries = es })) Memory) (sym c.reserve.ensures.same)
     (tt, stays (known_by b g.B.Based.damaged v) told.legal, told.closing ∙ running))
 
 pub invariant_of-self-then-has_stayed : goal.invariant_of-self-then-has_stayed
@@ -93,7 +99,7 @@ invariant_of-self-then-has_stayed g c =
     let running : s.closed ≡ None = none_of s.closed (λ x is. search rules) in
     let l : c.in-Some-doubt_place.at.group < length s.groups.items = inside s.groups.items c.deref.result.now c.in-Some-doubt_place.at.group c.deref.ensures.value c.in-Some-doubt_place.ensures.within in
     let named = (doubt_at s.groups.items c.deref.result.now c.in-Some-doubt_place.at.group c.in-Some-doubt_place.at.index c.args.d.now.index c.index_mut-group.result.now _ c.deref.ensures.value c.in-Some-doubt_place.ensures.within c.in-Some-doubt_place.ensures.numbered c.index_mut-group.ensures.value).1 in
-    let here : WritesNothing c.fix-fixed.result = search rules in
+    let here : AddsNoEntry c.fix-fixed.result = search rules in
     let h = stayed g.D.Disk c.index_mut-group.result.now c.fix-fixed.new.group s.disk c.fix-fixed.new.disk c.in-Some-doubt_place.at.index c.as_slice.result.now c.args.d.now.stamp c.fix-fixed.result here c.fix-fixed.ensures.fixes in (
       roomy g.D.Disk b g.B.Founded.sound g.B.Founded.premise g.B.Founded.began c.fix-fixed.new.disk s.catalog s.standing (slice_set s.groups.items c.in-Some-doubt_place.at.group c.fix-fixed.new.group) s.trail s.late s.closed
           (fix_stayed g.D.Disk g.met.D.Disk.told g.met.D.Disk.up_to_now b g.B.Founded.sound g.B.Founded.premise g.B.Founded.began s.disk s.catalog s.standing s.groups.items s.trail s.late s.closed k running c.in-Some-doubt_place.at.group c.index_mut-group.result.now c.fix-fixed.new.group l (sym c.index_mut-group.ensures.value) c.fix-fixed.new.disk h)
@@ -111,7 +117,7 @@ returns-then-has_stayed-clause-ok g c =
     let running : s.closed ≡ None = none_of s.closed (λ x is. search rules) in
     let l : c.in-Some-doubt_place.at.group < length s.groups.items = inside s.groups.items c.deref.result.now c.in-Some-doubt_place.at.group c.deref.ensures.value c.in-Some-doubt_place.ensures.within in
     let named = (doubt_at s.groups.items c.deref.result.now c.in-Some-doubt_place.at.group c.in-Some-doubt_place.at.index c.args.d.now.index c.index_mut-group.result.now _ c.deref.ensures.value c.in-Some-doubt_place.ensures.within c.in-Some-doubt_place.ensures.numbered c.index_mut-group.ensures.value).1 in
-    let here : WritesNothing c.fix-fixed.result = search rules in
+    let here : AddsNoEntry c.fix-fixed.result = search rules in
     let h = stayed g.D.Disk c.index_mut-group.result.now c.fix-fixed.new.group s.disk c.fix-fixed.new.disk c.in-Some-doubt_place.at.index c.as_slice.result.now c.args.d.now.stamp c.fix-fixed.result here c.fix-fixed.ensures.fixes in
     let same : c.as_slice.result.now ≡ c.args.d.now.key = search rules in
     let fixes = subst (λ (kk : List ℕ). Fixes g.D.Disk c.index_mut-group.result.now c.fix-fixed.new.group s.disk c.fix-fixed.new.disk c.in-Some-doubt_place.at.index kk c.args.d.now.stamp c.fix-fixed.result) same c.fix-fixed.ensures.fixes in
@@ -127,7 +133,7 @@ returns-then-has_stayed-clause-fixes g c =
     let s = c.self.inside in
     let l : c.in-Some-doubt_place.at.group < length s.groups.items = inside s.groups.items c.deref.result.now c.in-Some-doubt_place.at.group c.deref.ensures.value c.in-Some-doubt_place.ensures.within in
     let named = doubt_at s.groups.items c.deref.result.now c.in-Some-doubt_place.at.group c.in-Some-doubt_place.at.index c.args.d.now.index c.index_mut-group.result.now _ c.deref.ensures.value c.in-Some-doubt_place.ensures.within c.in-Some-doubt_place.ensures.numbered c.index_mut-group.ensures.value in
-    let here : WritesNothing c.fix-fixed.result = search rules in
+    let here : AddsNoEntry c.fix-fixed.result = search rules in
     let same : c.as_slice.result.now ≡ c.args.d.now.key = search rules in
     let fixes = subst (λ (kk : List ℕ). Fixes g.D.Disk c.index_mut-group.result.now c.fix-fixed.new.group s.disk c.fix-fixed.new.disk c.in-Some-doubt_place.at.index kk c.args.d.now.stamp c.fix-fixed.result) same c.fix-fixed.ensures.fixes in
     subst (λ (w : Shown). IfOk c.answered.result (Mends w.groups (slice_set s.groups.items c.in-Some-doubt_place.at.group c.fix-fixed.new.group) c.args.d.now)) c.self.view_is
@@ -143,14 +149,14 @@ returns-then-has_stayed-clause-refused g c =
     let running : s.closed ≡ None = none_of s.closed (λ x is. search rules) in
     let l : c.in-Some-doubt_place.at.group < length s.groups.items = inside s.groups.items c.deref.result.now c.in-Some-doubt_place.at.group c.deref.ensures.value c.in-Some-doubt_place.ensures.within in
     let named = (doubt_at s.groups.items c.deref.result.now c.in-Some-doubt_place.at.group c.in-Some-doubt_place.at.index c.args.d.now.index c.index_mut-group.result.now _ c.deref.ensures.value c.in-Some-doubt_place.ensures.within c.in-Some-doubt_place.ensures.numbered c.index_mut-group.ensures.value).1 in
-    let here : WritesNothing c.fix-fixed.result = search rules in
+    let here : AddsNoEntry c.fix-fixed.result = search rules in
     let h = stayed g.D.Disk c.index_mut-group.result.now c.fix-fixed.new.group s.disk c.fix-fixed.new.disk c.in-Some-doubt_place.at.index c.as_slice.result.now c.args.d.now.stamp c.fix-fixed.result here c.fix-fixed.ensures.fixes in
-    subst (λ (w : Shown). IfErr c.answered.result (Refuses fix_cause (known_by b g.B.Based.damaged w) (known_by b g.B.Based.damaged (record v { entries = c.give_back.new.self.entries })))) c.self.view_is
-    (subst (λ (es : List Entry). IfErr c.answered.result (Refuses fix_cause (known_by b g.B.Based.damaged v) (known_by b g.B.Based.damaged (record v { entries = es })))) (sym (c.give_back.ensures.same ∙ c.reserve.ensures.same))
+    subst (λ (w : Shown). IfErr c.answered.result (Refuses (fix_cause g.B.Founded.sound) (known_by b g.B.Based.damaged w) (known_by b g.B.Based.damaged (record v { entries = c.give_back.new.self.entries })))) c.self.view_is
+    (subst (λ (es : List Entry). IfErr c.answered.result (Refuses (fix_cause g.B.Founded.sound) (known_by b g.B.Based.damaged v) (known_by b g.B.Based.damaged (record v { entries = es })))) (sym (c.give_back.ensures.same ∙ c.reserve.ensures.same))
     (answers_refused g.D.Disk c.index_mut-group.result.now c.fix-fixed.new.group s.disk c.fix-fixed.new.disk c.in-Some-doubt_place.at.index c.number-region.result (known_by b g.B.Based.damaged v) (known_by b g.B.Based.damaged v) c.args.d.now
     (finds (known_by b g.B.Based.damaged v) told.legal s.closed told.closing running)
     (stayed_flight g.D.Disk g.met.D.Disk.told g.met.D.Disk.up_to_now b g.B.Founded.sound g.B.Founded.premise g.B.Founded.began s.disk s.catalog s.standing s.groups.items s.trail s.late s.closed k running c.in-Some-doubt_place.at.group c.index_mut-group.result.now c.fix-fixed.new.group l (sym c.index_mut-group.ensures.value) c.fix-fixed.new.disk h c.in-Some-doubt_place.at.index c.args.d.now named)
-    c.fix-fixed.result here c.answered.result c.answered.ensures))
+    g.B.Founded.sound c.fix-fixed.result c.fix-fixed.ensures.undamaged here c.answered.result c.answered.ensures))
 
 pub returns-then-has_stayed-clause-caused : goal.returns-then-has_stayed-clause-caused
 returns-then-has_stayed-clause-caused g c =
@@ -177,7 +183,7 @@ invariant_of-self-in-Ok-fixed g c =
     let running : s.closed ≡ None = none_of s.closed (λ x is. search rules) in
     let l : c.in-Some-doubt_place.at.group < length s.groups.items = inside s.groups.items c.deref.result.now c.in-Some-doubt_place.at.group c.deref.ensures.value c.in-Some-doubt_place.ensures.within in
     let named = (doubt_at s.groups.items c.deref.result.now c.in-Some-doubt_place.at.group c.in-Some-doubt_place.at.index c.args.d.now.index c.index_mut-group.result.now _ c.deref.ensures.value c.in-Some-doubt_place.ensures.within c.in-Some-doubt_place.ensures.numbered c.index_mut-group.ensures.value).1 in
-    let never : WritesNothing c.fix-fixed.result → ⊥ = λ st. search rules in
+    let never : AddsNoEntry c.fix-fixed.result → ⊥ = λ st. search rules in
     let f = (fixed_of g.D.Disk c.index_mut-group.result.now c.fix-fixed.new.group s.disk c.fix-fixed.new.disk c.in-Some-doubt_place.at.index c.as_slice.result.now c.args.d.now.stamp c.fix-fixed.result c.in-Ok-fixed.fixing never c.in-Ok-fixed.is c.fix-fixed.ensures.fixes).0 in
     let o : c.reserve.new.self.room ≡ s.trail.room + 1 = search rules in
     let p = c.push.ensures.room in (
@@ -196,7 +202,7 @@ returns-in-Ok-fixed-clause-ok g c =
     let running : s.closed ≡ None = none_of s.closed (λ x is. search rules) in
     let l : c.in-Some-doubt_place.at.group < length s.groups.items = inside s.groups.items c.deref.result.now c.in-Some-doubt_place.at.group c.deref.ensures.value c.in-Some-doubt_place.ensures.within in
     let named = (doubt_at s.groups.items c.deref.result.now c.in-Some-doubt_place.at.group c.in-Some-doubt_place.at.index c.args.d.now.index c.index_mut-group.result.now _ c.deref.ensures.value c.in-Some-doubt_place.ensures.within c.in-Some-doubt_place.ensures.numbered c.index_mut-group.ensures.value).1 in
-    let never : WritesNothing c.fix-fixed.result → ⊥ = λ st. search rules in
+    let never : AddsNoEntry c.fix-fixed.result → ⊥ = λ st. search rules in
     let same : c.as_slice.result.now ≡ c.args.d.now.key = search rules in
     let fixes = subst (λ (kk : List ℕ). Fixes g.D.Disk c.index_mut-group.result.now c.fix-fixed.new.group s.disk c.fix-fixed.new.disk c.in-Some-doubt_place.at.index kk c.args.d.now.stamp c.fix-fixed.result) same c.fix-fixed.ensures.fixes in
     let f = fixed_of g.D.Disk c.index_mut-group.result.now c.fix-fixed.new.group s.disk c.fix-fixed.new.disk c.in-Some-doubt_place.at.index c.args.d.now.key c.args.d.now.stamp c.fix-fixed.result c.in-Ok-fixed.fixing never c.in-Ok-fixed.is fixes in
@@ -217,7 +223,7 @@ returns-in-Ok-fixed-clause-fixes g c =
     let s = c.self.inside in
     let l : c.in-Some-doubt_place.at.group < length s.groups.items = inside s.groups.items c.deref.result.now c.in-Some-doubt_place.at.group c.deref.ensures.value c.in-Some-doubt_place.ensures.within in
     let named = doubt_at s.groups.items c.deref.result.now c.in-Some-doubt_place.at.group c.in-Some-doubt_place.at.index c.args.d.now.index c.index_mut-group.result.now _ c.deref.ensures.value c.in-Some-doubt_place.ensures.within c.in-Some-doubt_place.ensures.numbered c.index_mut-group.ensures.value in
-    let never : WritesNothing c.fix-fixed.result → ⊥ = λ st. search rules in
+    let never : AddsNoEntry c.fix-fixed.result → ⊥ = λ st. search rules in
     let same : c.as_slice.result.now ≡ c.args.d.now.key = search rules in
     let fixes = subst (λ (kk : List ℕ). Fixes g.D.Disk c.index_mut-group.result.now c.fix-fixed.new.group s.disk c.fix-fixed.new.disk c.in-Some-doubt_place.at.index kk c.args.d.now.stamp c.fix-fixed.result) same c.fix-fixed.ensures.fixes in
     let f = fixed_of g.D.Disk c.index_mut-group.result.now c.fix-fixed.new.group s.disk c.fix-fixed.new.disk c.in-Some-doubt_place.at.index c.args.d.now.key c.args.d.now.stamp c.fix-fixed.result c.in-Ok-fixed.fixing never c.in-Ok-fixed.is fixes in
@@ -236,15 +242,17 @@ invariant_of-self-in-Err g c =
     let running : s.closed ≡ None = none_of s.closed (λ x is. search rules) in
     let l : c.in-Some-doubt_place.at.group < length s.groups.items = inside s.groups.items c.deref.result.now c.in-Some-doubt_place.at.group c.deref.ensures.value c.in-Some-doubt_place.ensures.within in
     let named = (doubt_at s.groups.items c.deref.result.now c.in-Some-doubt_place.at.group c.in-Some-doubt_place.at.index c.args.d.now.index c.index_mut-group.result.now _ c.deref.ensures.value c.in-Some-doubt_place.ensures.within c.in-Some-doubt_place.ensures.numbered c.index_mut-group.ensures.value).1 in
-    let never : WritesNothing c.fix-fixed.result → ⊥ = λ st. search rules in
-    let f = (failed_of g.D.Disk c.index_mut-group.result.now c.fix-fixed.new.group s.disk c.fix-fixed.new.disk c.in-Some-doubt_place.at.index c.as_slice.result.now c.args.d.now.stamp c.fix-fixed.result c.in-Err.field-0 never c.in-Err.is c.fix-fixed.ensures.fixes) in
+    let never : AddsNoEntry c.fix-fixed.result → ⊥ = λ st. search rules in
+    let unread : c.fix-fixed.result ≡ Err ReadFault → ⊥ = λ same. search rules in
+    let f = (failed_of g.D.Disk c.index_mut-group.result.now c.fix-fixed.new.group s.disk c.fix-fixed.new.disk c.in-Some-doubt_place.at.index c.as_slice.result.now c.args.d.now.stamp c.fix-fixed.result c.in-Err.field-0 never unread c.in-Err.is c.fix-fixed.ensures.fixes) in
+    let read = read_kept g.D.Disk s.disk f.0.read f.0.reads g.met.D.Disk.told g.met.D.Disk.up_to_now b g.B.Founded.sound g.B.Founded.premise g.B.Founded.began s.catalog s.standing s.groups.items s.trail s.late s.closed k running in
     let o : c.reserve.new.self.room ≡ s.trail.room + 1 = search rules in
     let p = c.shut.ensures.room in
     let unlate : s.late ≡ None = k.server.unlate running in
     let shut : Entry = record { seat = s.seat; calls = c.call_count-calls.result; act = ShutAct c.call_count-calls.result } in (
       subst (λ (la : Option Entry). IsKept g.D.Disk b g.B.Founded.sound g.B.Founded.premise g.B.Founded.began c.fix-fixed.new.disk s.catalog s.standing (slice_set s.groups.items c.in-Some-doubt_place.at.group c.fix-fixed.new.group) c.shut.new.trail la (Some c.call_count-calls.result)) (sym unlate)
-          (failed_kept g.D.Disk g.met.D.Disk.told g.met.D.Disk.up_to_now b g.B.Founded.sound g.B.Founded.premise g.B.Founded.began s.disk s.catalog s.standing s.groups.items s.trail s.late s.closed k running c.in-Some-doubt_place.at.group c.index_mut-group.result.now c.fix-fixed.new.group l (sym c.index_mut-group.ensures.value) c.fix-fixed.new.disk
-          c.in-Some-doubt_place.at.index c.as_slice.result.now c.args.d.now.stamp f.0.looked f.0.has f.0.kept f.0.due f.0.hands shut c.call_count-calls.result refl c.call_count-calls.ensures (c.fix-fixed.ensures.failed f.1) c.shut.new.trail (c.shut.ensures.entries ∙ ap (λ (es : List Entry). es ++ shut ∷ []) c.reserve.ensures.same) (omega (arith, o, p))),
+          (failed_kept g.D.Disk g.met.D.Disk.told g.met.D.Disk.up_to_now b g.B.Founded.sound g.B.Founded.premise g.B.Founded.began f.0.read s.catalog s.standing s.groups.items s.trail s.late s.closed read running c.in-Some-doubt_place.at.group c.index_mut-group.result.now c.fix-fixed.new.group l (sym c.index_mut-group.ensures.value) c.fix-fixed.new.disk
+          c.in-Some-doubt_place.at.index c.as_slice.result.now c.args.d.now.stamp f.0.looked f.0.has f.0.kept f.0.due f.0.hands shut c.call_count-calls.result refl c.call_count-calls.ensures f.0.rose c.shut.new.trail (c.shut.ensures.entries ∙ ap (λ (es : List Entry). es ++ shut ∷ []) c.reserve.ensures.same) (omega (arith, o, p))),
       (c.self.invariant.1.0, more_by_clock g.C.Clock g.B.Founded.times g.B.Based.base g.B.Founded.lookback s.lookback s.clock s.trail.entries c.self.invariant.1.1 c.shut.new.trail.entries shut (c.shut.ensures.entries ∙ ap (λ (es : List Entry). es ++ shut ∷ []) c.reserve.ensures.same) refl),
     )
 
@@ -292,6 +300,64 @@ returns-in-Err-clause-counted g c =
     subst (λ (u : Shown). rows_looked (slice_set s.groups.items c.in-Some-doubt_place.at.group c.fix-fixed.new.group) ≤ rows_looked u.groups + 1) c.self.view_is
     (counted_by s.groups.items c.in-Some-doubt_place.at.group c.index_mut-group.result.now c.fix-fixed.new.group l (sym c.index_mut-group.ensures.value) c.fix-fixed.ensures.counted)
 
+-- ---- a read failed
+
+pub invariant_of-self-then-has_missed : goal.invariant_of-self-then-has_missed
+invariant_of-self-then-has_missed g c =
+    let s = c.self.inside in
+    let b = g.B.Based.base in
+    let k = c.self.invariant.0 in
+    let place = c.in-Some-doubt_place.at.group in
+    let running : s.closed ≡ None = none_of s.closed (λ x is. search rules) in
+    let l : place < length s.groups.items = inside s.groups.items c.deref.result.now place c.deref.ensures.value c.in-Some-doubt_place.ensures.within in
+    let missed : c.fix-fixed.result ≡ Err ReadFault = search rules in
+    let h = missed_of g.D.Disk c.index_mut-group.result.now c.fix-fixed.new.group s.disk c.fix-fixed.new.disk c.in-Some-doubt_place.at.index c.as_slice.result.now c.args.d.now.stamp c.fix-fixed.result missed c.fix-fixed.ensures.fixes in
+    let o : c.reserve.new.self.room ≡ s.trail.room + 1 = search rules in
+    let told = subst (λ (es : List Entry). Misses s.seat c.call_count-calls.result es c.miss.new.trail.entries c.miss.result) c.reserve.ensures.same c.miss.ensures.told in (
+      misses_set g.D.Disk g.met.D.Disk.told g.met.D.Disk.up_to_now b g.B.Founded.sound g.B.Founded.premise g.B.Founded.began c.fix-fixed.new.disk s.catalog s.standing s.groups.items place c.fix-fixed.new.group l s.trail s.late s.closed
+          (fix_stayed g.D.Disk g.met.D.Disk.told g.met.D.Disk.up_to_now b g.B.Founded.sound g.B.Founded.premise g.B.Founded.began s.disk s.catalog s.standing s.groups.items s.trail s.late s.closed k running place c.index_mut-group.result.now c.fix-fixed.new.group l (sym c.index_mut-group.ensures.value) c.fix-fixed.new.disk h)
+          running s.seat c.call_count-calls.result c.call_count-calls.ensures c.miss.new.trail (let r = c.miss.ensures.room in omega (arith, r, o)) c.miss.result (failed_rose g.D.Disk s.disk c.fix-fixed.new.disk (c.fix-fixed.ensures.read_failed missed)) told,
+      (c.self.invariant.1.0, misses_by_clock g.C.Clock g.B.Founded.times g.B.Based.base g.B.Founded.lookback s.lookback s.clock s.trail.entries c.self.invariant.1.1 s.seat c.call_count-calls.result c.miss.new.trail.entries c.miss.result told),
+    )
+
+pub returns-then-has_missed-clause-refused : goal.returns-then-has_missed-clause-refused
+returns-then-has_missed-clause-refused g c =
+    let s = c.self.inside in
+    let b = g.B.Based.base in
+    let told = c.self.invariant.0.told in
+    let running : s.closed ≡ None = none_of s.closed (λ x is. search rules) in
+    let v : Shown = shown_of s.seat s.trail.entries s.late s.closed s.groups.items s.lookback s.raising (g.D.Disk.calls s.disk) (g.D.Disk.faults s.disk) in
+    let k = known_by b g.B.Based.damaged v in
+    let tells = subst (λ (es : List Entry). Misses s.seat c.call_count-calls.result es c.miss.new.trail.entries c.miss.result) c.reserve.ensures.same c.miss.ensures.told in
+    subst (λ (w : Shown). Refuses (fix_cause g.B.Founded.sound) (known_by b g.B.Based.damaged w) (record k { seen = c.miss.new.trail.entries }) c.miss.result) c.self.view_is
+    (misses_refused k told.legal (told.closing ∙ running) (fix_cause g.B.Founded.sound) c.call_count-calls.result c.miss.new.trail.entries (invariant_of-self-then-has_missed g c).0.told.legal c.miss.result tells (λ entries. tt) tt)
+
+pub returns-then-has_missed-clause-caused : goal.returns-then-has_missed-clause-caused
+returns-then-has_missed-clause-caused g c = misses_as (RefusesFix c.args.self.now.groups c.args.d.now) c.self.inside.seat c.call_count-calls.result c.reserve.new.self.entries c.miss.new.trail.entries c.miss.result c.miss.ensures.told tt tt
+
+pub returns-then-has_missed-clause-counted : goal.returns-then-has_missed-clause-counted
+returns-then-has_missed-clause-counted g c =
+    let s = c.self.inside in
+    let l : c.in-Some-doubt_place.at.group < length s.groups.items = inside s.groups.items c.deref.result.now c.in-Some-doubt_place.at.group c.deref.ensures.value c.in-Some-doubt_place.ensures.within in
+    subst (λ (u : Shown). rows_looked (slice_set s.groups.items c.in-Some-doubt_place.at.group c.fix-fixed.new.group) ≤ rows_looked u.groups + 1) c.self.view_is
+    (counted_by s.groups.items c.in-Some-doubt_place.at.group c.index_mut-group.result.now c.fix-fixed.new.group l (sym c.index_mut-group.ensures.value) c.fix-fixed.ensures.counted)
+
+pub returns-then-has_missed-clause-still : goal.returns-then-has_missed-clause-still
+returns-then-has_missed-clause-still g c =
+    let s = c.self.inside in
+    let after : List Group = slice_set s.groups.items c.in-Some-doubt_place.at.group c.fix-fixed.new.group in
+    misses_as (λ f. IsForRoom f → (p : Point) (v : IndexVersion) → have_doubt after p v ≡ have_doubt c.args.self.now.groups p v) s.seat c.call_count-calls.result c.reserve.new.self.entries c.miss.new.trail.entries c.miss.result c.miss.ensures.told (λ room. absurd room) (λ room. absurd room)
+
+pub returns-then-has_missed-clause-counts : goal.returns-then-has_missed-clause-counts
+returns-then-has_missed-clause-counts g c = made_by g.D.Disk c.self.inside.disk c.fix-fixed.new.disk (fixed_passes g.D.Disk c.self.inside.disk c.fix-fixed.new.disk c.index_mut-group.result.now c.fix-fixed.new.group c.in-Some-doubt_place.at.index c.as_slice.result.now c.args.d.now.stamp c.fix-fixed.result c.fix-fixed.ensures.fixes) (omega arith) c.self.view_is refl refl refl refl
+
+pub returns-then-has_missed-clause-blames : goal.returns-then-has_missed-clause-blames
+returns-then-has_missed-clause-blames g c =
+    let s = c.self.inside in
+    let new : Shown = record c.args.self.now { calls = g.D.Disk.calls c.fix-fixed.new.disk; faults = g.D.Disk.faults c.fix-fixed.new.disk } in
+    let missed : c.fix-fixed.result ≡ Err ReadFault = search rules in
+    misses_as (Blames c.args.self.now new) s.seat c.call_count-calls.result c.reserve.new.self.entries c.miss.new.trail.entries c.miss.result c.miss.ensures.told (rose_by g.D.Disk s.disk c.fix-fixed.new.disk (c.fix-fixed.ensures.read_failed missed) c.self.view_is refl) tt
+
 -- ---- what is in doubt
 
 pub returns-in-Some-clause-still : goal.returns-in-Some-clause-still
@@ -329,7 +395,7 @@ returns-then-has_stayed-clause-there g c =
     let named = doubt_at s.groups.items c.deref.result.now place at c.args.d.now.index h _ c.deref.ensures.value c.in-Some-doubt_place.ensures.within c.in-Some-doubt_place.ensures.numbered c.index_mut-group.ensures.value in
     let same : c.as_slice.result.now ≡ c.args.d.now.key = search rules in
     let fixes = subst (λ (kk : List ℕ). Fixes g.D.Disk h h' s.disk c.fix-fixed.new.disk at kk c.args.d.now.stamp c.fix-fixed.result) same c.fix-fixed.ensures.fixes in
-    let here : WritesNothing c.fix-fixed.result = search rules in
+    let here : AddsNoEntry c.fix-fixed.result = search rules in
     subst (λ (w : Shown). IfOk c.answered.result (λ f. (p : Point) → have_doubt w.groups p (version_of c.args.d.now) ≡ true → f ≢ Gone)) c.self.view_is
     (answers_there g.D.Disk b g.B.Founded.sound g.B.Founded.premise g.B.Founded.began s.disk s.catalog s.standing s.groups.items s.trail s.late s.closed k running place h h' l (sym c.index_mut-group.ensures.value) c.fix-fixed.new.disk at c.args.d.now named.0 named.1 c.number-region.result c.fix-fixed.result here fixes c.answered.result c.answered.ensures)
 
@@ -344,7 +410,7 @@ returns-then-has_stayed-clause-others g c =
     let h' = c.fix-fixed.new.group in
     let running : s.closed ≡ None = none_of s.closed (λ x is. search rules) in
     let l : place < length s.groups.items = inside s.groups.items c.deref.result.now place c.deref.ensures.value c.in-Some-doubt_place.ensures.within in
-    let here : WritesNothing c.fix-fixed.result = search rules in
+    let here : AddsNoEntry c.fix-fixed.result = search rules in
     let h-stayed = stayed g.D.Disk h h' s.disk c.fix-fixed.new.disk at c.as_slice.result.now c.args.d.now.stamp c.fix-fixed.result here c.fix-fixed.ensures.fixes in
     subst (λ (w : Shown). IfOk c.answered.result (λ f. g.B.Founded.sound → (p : Point) (v : IndexVersion) → v.key ≢ c.args.d.now.key → have_doubt (slice_set s.groups.items place h') p v ≡ have_doubt w.groups p v)) c.self.view_is
     (others_told (g.B.Founded.sound → (p : Point) (v : IndexVersion) → v.key ≢ c.args.d.now.key → have_doubt (slice_set s.groups.items place h') p v ≡ have_doubt s.groups.items p v)
@@ -361,7 +427,7 @@ returns-then-has_stayed-clause-still g c =
     let h' = c.fix-fixed.new.group in
     let running : s.closed ≡ None = none_of s.closed (λ x is. search rules) in
     let l : place < length s.groups.items = inside s.groups.items c.deref.result.now place c.deref.ensures.value c.in-Some-doubt_place.ensures.within in
-    let here : WritesNothing c.fix-fixed.result = search rules in
+    let here : AddsNoEntry c.fix-fixed.result = search rules in
     let h-stayed = stayed g.D.Disk h h' s.disk c.fix-fixed.new.disk at c.as_slice.result.now c.args.d.now.stamp c.fix-fixed.result here c.fix-fixed.ensures.fixes in
     subst (λ (w : Shown). IfErr c.answered.result (λ f. IsForRoom f → (p : Point) (v : IndexVersion) → have_doubt (slice_set s.groups.items place h') p v ≡ have_doubt w.groups p v)) c.self.view_is
     (still_told ((p : Point) (v : IndexVersion) → have_doubt (slice_set s.groups.items place h') p v ≡ have_doubt s.groups.items p v)
@@ -373,7 +439,7 @@ not_gone x fixed gone = (let z : ◌≡◌ {A = Fixing} AsFixed Gone = sym fixed
 pub returns-in-Ok-fixed-clause-there : goal.returns-in-Ok-fixed-clause-there
 returns-in-Ok-fixed-clause-there g c = λ p had.
     let s = c.self.inside in
-    let never : WritesNothing c.fix-fixed.result → ⊥ = λ st. search rules in
+    let never : AddsNoEntry c.fix-fixed.result → ⊥ = λ st. search rules in
     let f = fixed_of g.D.Disk c.index_mut-group.result.now c.fix-fixed.new.group s.disk c.fix-fixed.new.disk c.in-Some-doubt_place.at.index c.as_slice.result.now c.args.d.now.stamp c.fix-fixed.result c.in-Ok-fixed.fixing never c.in-Ok-fixed.is c.fix-fixed.ensures.fixes in
     not_gone c.in-Ok-fixed.fixing f.1
 
@@ -390,7 +456,7 @@ returns-in-Ok-fixed-clause-others g c =
     let l : place < length s.groups.items = inside s.groups.items c.deref.result.now place c.deref.ensures.value c.in-Some-doubt_place.ensures.within in
     let same : c.as_slice.result.now ≡ c.args.d.now.key = search rules in
     let fixes = subst (λ (kk : List ℕ). Fixes g.D.Disk h h' s.disk c.fix-fixed.new.disk at kk c.args.d.now.stamp c.fix-fixed.result) same c.fix-fixed.ensures.fixes in
-    let never : WritesNothing c.fix-fixed.result → ⊥ = λ st. search rules in
+    let never : AddsNoEntry c.fix-fixed.result → ⊥ = λ st. search rules in
     let f = fixed_of g.D.Disk h h' s.disk c.fix-fixed.new.disk at c.args.d.now.key c.args.d.now.stamp c.fix-fixed.result c.in-Ok-fixed.fixing never c.in-Ok-fixed.is fixes in
     subst (λ (w : Shown). g.B.Founded.sound → (p : Point) (v : IndexVersion) → v.key ≢ c.args.d.now.key → have_doubt (slice_set s.groups.items place h') p v ≡ have_doubt w.groups p v) c.self.view_is
     (λ given p v apart. fixed_others g.D.Disk b g.B.Founded.sound g.B.Founded.premise g.B.Founded.began s.disk s.catalog s.standing s.groups.items s.trail s.late s.closed k running place h h' l (sym c.index_mut-group.ensures.value) given c.fix-fixed.new.disk at c.args.d.now.key c.args.d.now.stamp f.0 p v apart)
@@ -413,4 +479,4 @@ pub returns-then-has_stayed-clause-blames : goal.returns-then-has_stayed-clause-
 returns-then-has_stayed-clause-blames g c = answered_blames c.args.self.now (record c.args.self.now { calls = g.D.Disk.calls c.fix-fixed.new.disk; faults = g.D.Disk.faults c.fix-fixed.new.disk }) c.number-region.result c.fix-fixed.result c.answered.result (search rules) c.answered.ensures
 
 pub returns-in-Err-clause-blames : goal.returns-in-Err-clause-blames
-returns-in-Err-clause-blames g c = rose_by g.D.Disk c.self.inside.disk c.fix-fixed.new.disk (c.fix-fixed.ensures.failed (failed_of g.D.Disk c.index_mut-group.result.now c.fix-fixed.new.group c.self.inside.disk c.fix-fixed.new.disk c.in-Some-doubt_place.at.index c.as_slice.result.now c.args.d.now.stamp c.fix-fixed.result c.in-Err.field-0 (λ st. search rules) c.in-Err.is c.fix-fixed.ensures.fixes).1) c.self.view_is refl
+returns-in-Err-clause-blames g c = rose_by g.D.Disk c.self.inside.disk c.fix-fixed.new.disk (c.fix-fixed.ensures.failed (failed_of g.D.Disk c.index_mut-group.result.now c.fix-fixed.new.group c.self.inside.disk c.fix-fixed.new.disk c.in-Some-doubt_place.at.index c.as_slice.result.now c.args.d.now.stamp c.fix-fixed.result c.in-Err.field-0 (λ st. search rules) (λ same. search rules) c.in-Err.is c.fix-fixed.ensures.fixes).1) c.self.view_is refl

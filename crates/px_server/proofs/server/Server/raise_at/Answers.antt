@@ -121,9 +121,9 @@ returns-in-Err-clause-refused g c =
     let v : Shown = shown_of s.seat s.trail.entries s.late s.closed s.groups.items s.lookback s.raising (g.D.Disk.calls s.disk) (g.D.Disk.faults s.disk) in
     let running : s.closed ≡ None = ap (λ (w : Shown). w.closed) c.self.view_is ∙ c.requires.running in
     let r = c.in-Err.ensures.refused in
-    subst (λ (f : StepFault). Refuses upkeep_cause (known_by b g.B.Based.damaged c.args.self.now) (known_by b g.B.Based.damaged (record v { entries = c.raise_table.new.trail.entries })) f) (sym r.0)
-    (subst (λ (t : Recorded). Refuses upkeep_cause (known_by b g.B.Based.damaged c.args.self.now) (known_by b g.B.Based.damaged (record v { entries = t.entries })) Memory) (sym r.1.1)
-    (subst (λ (w : Shown). Refuses upkeep_cause (known_by b g.B.Based.damaged w) (known_by b g.B.Based.damaged v) Memory) c.self.view_is (work_no_memory (known_by b g.B.Based.damaged v) told.legal (told.closing ∙ running))))
+    subst (λ (f : StepFault). Refuses (upkeep_cause g.B.Founded.sound) (known_by b g.B.Based.damaged c.args.self.now) (known_by b g.B.Based.damaged (record v { entries = c.raise_table.new.trail.entries })) f) (sym r.0)
+    (subst (λ (t : Recorded). Refuses (upkeep_cause g.B.Founded.sound) (known_by b g.B.Based.damaged c.args.self.now) (known_by b g.B.Based.damaged (record v { entries = t.entries })) Memory) (sym r.1.1)
+    (subst (λ (w : Shown). Refuses (upkeep_cause g.B.Founded.sound) (known_by b g.B.Based.damaged w) (known_by b g.B.Based.damaged v) Memory) c.self.view_is (work_no_memory (known_by b g.B.Based.damaged v) told.legal g.B.Founded.sound (told.closing ∙ running))))
 
 pub returns-in-Err-clause-unlooked : goal.returns-in-Err-clause-unlooked
 returns-in-Err-clause-unlooked g c =

@@ -21,7 +21,7 @@ returns-in-Some-clause-refused g c =
     let b = g.B.Based.base in
     let told = c.self.invariant.0.told in
     let v : Shown = shown_of s.seat s.trail.entries s.late s.closed s.groups.items s.lookback s.raising (g.D.Disk.calls s.disk) (g.D.Disk.faults s.disk) in
-    subst (λ (w : Shown). Refuses (status_cause c.args.table.0) (known_by b g.B.Based.damaged w) (known_by b g.B.Based.damaged w) (Closed c.in-Some.call)) c.self.view_is
+    subst (λ (w : Shown). Refuses (status_cause g.B.Founded.sound c.args.table.0) (known_by b g.B.Based.damaged w) (known_by b g.B.Based.damaged w) (Closed c.in-Some.call)) c.self.view_is
     (closed_by (known_by b g.B.Based.damaged v) told.legal s.closed told.closing c.in-Some.call c.in-Some.is)
 
 pub returns-in_default-numbered_place-clause-refused : goal.returns-in_default-numbered_place-clause-refused
@@ -31,8 +31,8 @@ returns-in_default-numbered_place-clause-refused g c =
     let told = c.self.invariant.0.told in
     let v : Shown = shown_of s.seat s.trail.entries s.late s.closed s.groups.items s.lookback s.raising (g.D.Disk.calls s.disk) (g.D.Disk.faults s.disk) in
     let running : s.closed ≡ None = none_of s.closed (λ x is. search rules) in
-    subst (λ (w : Shown). Refuses (status_cause c.args.table.0) (known_by b g.B.Based.damaged w) (known_by b g.B.Based.damaged w) NoTable) c.self.view_is
-    (counts_no_table (known_by b g.B.Based.damaged v) told.legal s.closed told.closing running s.standing told.agrees c.args.table (lacks b s.trail.entries s.standing told.agrees c.args.table.0 c.in_default-numbered_place.ensures.none))
+    subst (λ (w : Shown). Refuses (status_cause g.B.Founded.sound c.args.table.0) (known_by b g.B.Based.damaged w) (known_by b g.B.Based.damaged w) NoTable) c.self.view_is
+    (counts_no_table (known_by b g.B.Based.damaged v) told.legal s.closed told.closing running s.standing told.agrees c.args.table g.B.Founded.sound (lacks b s.trail.entries s.standing told.agrees c.args.table.0 c.in_default-numbered_place.ensures.none))
 
 pub returns-clause-ok : goal.returns-clause-ok
 returns-clause-ok g c =
@@ -79,8 +79,8 @@ returns-clause-refused g c =
     let running : s.closed ≡ None = none_of s.closed (λ x is. search rules) in
     elim c.match-counts_of.branch [
       | in-Ok w ↦ rw w.result-is tt
-      | in-Err w ↦ rw w.result-is (subst (λ (u : Shown). Refuses (status_cause c.args.table.0) (known_by b g.B.Based.damaged u) (known_by b g.B.Based.damaged u) Memory) c.self.view_is
-          (counts_no_memory (known_by b g.B.Based.damaged v) told.legal s.closed told.closing running s.standing told.agrees c.args.table))
+      | in-Err w ↦ rw w.result-is (subst (λ (u : Shown). Refuses (status_cause g.B.Founded.sound c.args.table.0) (known_by b g.B.Based.damaged u) (known_by b g.B.Based.damaged u) Memory) c.self.view_is
+          (counts_no_memory (known_by b g.B.Based.damaged v) told.legal s.closed told.closing running s.standing told.agrees c.args.table g.B.Founded.sound))
     ]
 
 pub returns-clause-keys : goal.returns-clause-keys

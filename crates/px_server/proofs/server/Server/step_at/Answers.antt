@@ -86,7 +86,7 @@ returns-in-Err-Memory-clause-refused g c =
     let told = c.self.invariant.0.told in
     let v : Shown = shown_of s.seat s.trail.entries s.late s.closed s.groups.items s.lookback s.raising (g.D.Disk.calls s.disk) (g.D.Disk.faults s.disk) in
     let running : s.closed ≡ None = ap (λ (w : Shown). w.closed) c.self.view_is ∙ c.requires.running in
-    subst (λ (w : Shown). Refuses upkeep_cause (known_by b g.B.Based.damaged w) (known_by b g.B.Based.damaged v) Memory) c.self.view_is (work_no_memory (known_by b g.B.Based.damaged v) told.legal (told.closing ∙ running))
+    subst (λ (w : Shown). Refuses (upkeep_cause g.B.Founded.sound) (known_by b g.B.Based.damaged w) (known_by b g.B.Based.damaged v) Memory) c.self.view_is (work_no_memory (known_by b g.B.Based.damaged v) told.legal g.B.Founded.sound (told.closing ∙ running))
 
 pub returns-in-Err-WriteFault-clause-refused : goal.returns-in-Err-WriteFault-clause-refused
 returns-in-Err-WriteFault-clause-refused g c =
@@ -95,8 +95,8 @@ returns-in-Err-WriteFault-clause-refused g c =
     let told = c.self.invariant.0.told in
     let v : Shown = shown_of s.seat s.trail.entries s.late s.closed s.groups.items s.lookback s.raising (g.D.Disk.calls s.disk) (g.D.Disk.faults s.disk) in
     let v' : Shown = record v { entries = c.shut.new.trail.entries; closed = Some c.call_count-calls.result } in
-    subst (λ (w : Shown). Refuses upkeep_cause (known_by b g.B.Based.damaged w) (known_by b g.B.Based.damaged v') WriteFault) c.self.view_is
-    (work_failed (known_by b g.B.Based.damaged v) told.legal c.shut.new.trail.entries c.call_count-calls.result c.call_count-calls.result c.shut.ensures.entries (invariant_of-self-in-Err-WriteFault g c).0.told.legal)
+    subst (λ (w : Shown). Refuses (upkeep_cause g.B.Founded.sound) (known_by b g.B.Based.damaged w) (known_by b g.B.Based.damaged v') WriteFault) c.self.view_is
+    (work_failed (known_by b g.B.Based.damaged v) told.legal g.B.Founded.sound c.shut.new.trail.entries c.call_count-calls.result c.call_count-calls.result c.shut.ensures.entries (invariant_of-self-in-Err-WriteFault g c).0.told.legal)
 
 pub returns-in-Ok-clause-unlooked : goal.returns-in-Ok-clause-unlooked
 returns-in-Ok-clause-unlooked g c =

@@ -47,7 +47,7 @@ pub returns-in-Some-clause-refused : goal.returns-in-Some-clause-refused
 returns-in-Some-clause-refused g c =
     let b = g.B.Based.base in
     let then = c.raise_at.new.self in
-    subst (λ (w : Shown). IfErr c.raise_at.result (Refuses upkeep_cause (known_by b g.B.Based.damaged w) (known_by b g.B.Based.damaged then))) c.in_ok-renewed.ensures.same.0 c.raise_at.ensures.refused
+    subst (λ (w : Shown). IfErr c.raise_at.result (Refuses (upkeep_cause g.B.Founded.sound) (known_by b g.B.Based.damaged w) (known_by b g.B.Based.damaged then))) c.in_ok-renewed.ensures.same.0 c.raise_at.ensures.refused
 
 pub returns-in-Some-clause-unlooked : goal.returns-in-Some-clause-unlooked
 returns-in-Some-clause-unlooked g c = c.raise_at.ensures.unlooked ∙ ap rows_looked c.renew_catalog.ensures.groups
@@ -77,7 +77,7 @@ pub returns-in-None-clause-refused : goal.returns-in-None-clause-refused
 returns-in-None-clause-refused g c =
     let b = g.B.Based.base in
     let then = c.upkeep_regions.new.self in
-    subst (λ (w : Shown). IfErr c.upkeep_regions.result (Refuses upkeep_cause (known_by b g.B.Based.damaged w) (known_by b g.B.Based.damaged then))) c.in_ok-renewed.ensures.same.0 c.upkeep_regions.ensures.refused
+    subst (λ (w : Shown). IfErr c.upkeep_regions.result (Refuses (upkeep_cause g.B.Founded.sound) (known_by b g.B.Based.damaged w) (known_by b g.B.Based.damaged then))) c.in_ok-renewed.ensures.same.0 c.upkeep_regions.ensures.refused
 
 pub returns-in-None-clause-unlooked : goal.returns-in-None-clause-unlooked
 returns-in-None-clause-unlooked g c = c.upkeep_regions.ensures.unlooked ∙ ap rows_looked c.renew_catalog.ensures.groups

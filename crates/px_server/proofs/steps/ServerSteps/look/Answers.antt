@@ -9,4 +9,4 @@ pub returns-clause-looked_each : goal.returns-clause-looked_each
 returns-clause-looked_each g c = if_ok _ _ c.look.result (λ v risen alone by. risen by) c.look.ensures.risen
 
 pub returns-clause-doubts : goal.returns-clause-doubts
-returns-clause-doubts g c = if_ok _ _ c.look.result (λ v found alone. found) c.look.ensures.doubts
+returns-clause-doubts g c = if_ok _ _ c.look.result (λ v found alone sound. found) c.look.ensures.doubts
