@@ -1,5 +1,5 @@
 -- Words are read as the command that they spell, and only as that.
-use Rattle.std.proofs.Common.{ℕ, zero, suc, min, inl, inr, ◌&&◌, ◌≡◌, ◌≢◌, ◌<◌, ◌≤◌, ◌↔◌, if◌then◌else◌, ◌==◌, ◌||◌, not, Bool, true, false, Option, None, Some, List, [], ◌∷◌, ◌++◌, codes, length, take, get_or, refl, sym, ◌∙◌, ap, subst, arith, length-take, append_assoc}
+use Rattle.std.proofs.Common.{ℕ, zero, suc, min, inl, inr, ◌&&◌, ◌≡◌, ◌≢◌, ◌<◌, ◌≤◌, ◌-◌, ◌↔◌, if◌then◌else◌, ◌==◌, ◌||◌, not, Bool, true, false, Option, None, Some, List, [], ◌∷◌, ◌++◌, codes, length, take, get_or, refl, sym, ◌∙◌, ap, subst, arith, length-take, append_assoc}
 use Rattle.std.specs.Option.{is_some, option_and_then, option_map}
 use Rattle.std.specs.List.{AllByRecursion, before_first, after_first, position_or_len}
 use Rattle.std.specs.Prelude.{nat_le, nat_lt, ◌^◌}
@@ -14,9 +14,10 @@ use Rattle.px_verifying.specs.declared.answer.VerifyKind.{VerifyKind}
 use Rattle.px_verifying.specs.declared.answer.VerifyKind.TheVariants as kind
 use Rattle.px_arguments.specs.declared.said.Part.{Part}
 use Rattle.px_arguments.specs.declared.said.Part.TheVariants as part
-use Rattle.px_arguments.specs.Arguments.{SeenCommand, Run, Verify, Load, SeenSaid, begin, command_in, command_of, give, give_option, has_loaded, has_run, has_verified, is_equals, is_plain, kind_named, load, load_of, lookback_in, lookback_named, nothing, number_named, option_named, rows_named, run_of, said_from, some_lookback, some_rows, take_awaited, take_word, usual_lookback, value_in, verify_of, with_value}
+use Rattle.px_arguments.specs.Arguments.{SeenCommand, Run, Verify, Load, SeenSaid, begin, command_in, command_of, give, give_option, has_loaded, has_run, has_verified, is_equals, is_plain, kind_named, load, load_of, lookback_in, lookback_named, nothing, number_named, option_named, rows_named, run_of, said_from, schedule_in, session_among, session_named, sessions_from, sessions_named, some_lookback, some_rows, some_session, take_awaited, take_word, usual_lookback, value_in, verify_of, with_value}
+use Rattle.px_arguments.proofs.Lists.{digits_pass}
 use Rattle.px_arguments.proofs.Numbers.{named, numerals}
-use Rattle.px_arguments.specs.Spelled.{Asks, GivenPart, GivesRun, HasNoLoad, HasNoRun, HasNoVerify, IsGiven, IsNumber, IsSpelled, is_apart, is_folder, is_joined, is_same, kind_word, option_word, values_given, words_of}
+use Rattle.px_arguments.specs.Spelled.{AreSessions, Asks, GivenPart, GivesSchedule, HasNoLoad, HasNoRun, HasNoVerify, IsGiven, IsNumber, IsSchedule, IsSession, IsSpelled, KeepsVersions, is_apart, is_folder, is_joined, is_same, kind_word, option_word, values_given, with_commas, words_of}
 
 -- 1. Words
 
@@ -35,19 +36,20 @@ some_is x y h = cc
 named_as : (w : List ℕ) (p q : Part) (name : List ℕ) → option_word q ≡ Some name → w ≡ name → Some q ≡ Some p → option_word p ≡ Some w
 named_as w p q name word is same = subst (λ (x : Part). option_word x ≡ Some w) (some_is q p same) (word ∙ ap Some (sym is))
 
-named_by : (w : List ℕ) (p : Part) (a b c d e f : Bool) → bytes_eq w (codes "--table") ≡ a → bytes_eq w (codes "--index") ≡ b → bytes_eq w (codes "--kind") ≡ c → bytes_eq w (codes "--number") ≡ d → bytes_eq w (codes "--rows") ≡ e → bytes_eq w (codes "--lookback") ≡ f
-    → (if a then Some part.Table else (if b then Some part.Index else (if c then Some part.Kind else (if d then Some part.Number else (if e then Some part.Rows else (if f then Some part.Lookback else None)))))) ≡ Some p → option_word p ≡ Some w
-named_by w p true b c d e f ha hb hc hd he hf is = named_as w p part.Table (codes "--table") refl (from_bytes w (codes "--table") ha) is
-named_by w p false true c d e f ha hb hc hd he hf is = named_as w p part.Index (codes "--index") refl (from_bytes w (codes "--index") hb) is
-named_by w p false false true d e f ha hb hc hd he hf is = named_as w p part.Kind (codes "--kind") refl (from_bytes w (codes "--kind") hc) is
-named_by w p false false false true e f ha hb hc hd he hf is = named_as w p part.Number (codes "--number") refl (from_bytes w (codes "--number") hd) is
-named_by w p false false false false true f ha hb hc hd he hf is = named_as w p part.Rows (codes "--rows") refl (from_bytes w (codes "--rows") he) is
-named_by w p false false false false false true ha hb hc hd he hf is = named_as w p part.Lookback (codes "--lookback") refl (from_bytes w (codes "--lookback") hf) is
-named_by w p false false false false false false ha hb hc hd he hf is = absurd (none_some p is)
+named_by : (w : List ℕ) (p : Part) (a b c d e f k : Bool) → bytes_eq w (codes "--table") ≡ a → bytes_eq w (codes "--index") ≡ b → bytes_eq w (codes "--kind") ≡ c → bytes_eq w (codes "--number") ≡ d → bytes_eq w (codes "--rows") ≡ e → bytes_eq w (codes "--lookback") ≡ f → bytes_eq w (codes "--schedule") ≡ k
+    → (if a then Some part.Table else (if b then Some part.Index else (if c then Some part.Kind else (if d then Some part.Number else (if e then Some part.Rows else (if f then Some part.Lookback else (if k then Some part.Schedule else None))))))) ≡ Some p → option_word p ≡ Some w
+named_by w p true b c d e f k ha hb hc hd he hf hk is = named_as w p part.Table (codes "--table") refl (from_bytes w (codes "--table") ha) is
+named_by w p false true c d e f k ha hb hc hd he hf hk is = named_as w p part.Index (codes "--index") refl (from_bytes w (codes "--index") hb) is
+named_by w p false false true d e f k ha hb hc hd he hf hk is = named_as w p part.Kind (codes "--kind") refl (from_bytes w (codes "--kind") hc) is
+named_by w p false false false true e f k ha hb hc hd he hf hk is = named_as w p part.Number (codes "--number") refl (from_bytes w (codes "--number") hd) is
+named_by w p false false false false true f k ha hb hc hd he hf hk is = named_as w p part.Rows (codes "--rows") refl (from_bytes w (codes "--rows") he) is
+named_by w p false false false false false true k ha hb hc hd he hf hk is = named_as w p part.Lookback (codes "--lookback") refl (from_bytes w (codes "--lookback") hf) is
+named_by w p false false false false false false true ha hb hc hd he hf hk is = named_as w p part.Schedule (codes "--schedule") refl (from_bytes w (codes "--schedule") hk) is
+named_by w p false false false false false false false ha hb hc hd he hf hk is = absurd (none_some p is)
 
 -- a word that names an option is its word
 word_is : (w : List ℕ) (p : Part) → option_named w ≡ Some p → option_word p ≡ Some w
-word_is w p h = named_by w p (bytes_eq w (codes "--table")) (bytes_eq w (codes "--index")) (bytes_eq w (codes "--kind")) (bytes_eq w (codes "--number")) (bytes_eq w (codes "--rows")) (bytes_eq w (codes "--lookback")) refl refl refl refl refl refl h
+word_is w p h = named_by w p (bytes_eq w (codes "--table")) (bytes_eq w (codes "--index")) (bytes_eq w (codes "--kind")) (bytes_eq w (codes "--number")) (bytes_eq w (codes "--rows")) (bytes_eq w (codes "--lookback")) (bytes_eq w (codes "--schedule")) refl refl refl refl refl refl refl h
 
 -- an option's word names it, alone and in front of `=`
 pub record IsOption (p : Part) (name : List ℕ) : Type 0 where
@@ -69,13 +71,14 @@ option_is part.Kind name h = subst (IsOption part.Kind) (some_is (codes "--kind"
 option_is part.Number name h = subst (IsOption part.Number) (some_is (codes "--number") name h) (record { alone = refl; alone_whole = refl; joined = λ value. refl; joined_part = λ value. unequal 8 (length (codes "--number" ++ codes "=" ++ value)) _ refl (omega arith); joined_value = λ value. refl })
 option_is part.Rows name h = subst (IsOption part.Rows) (some_is (codes "--rows") name h) (record { alone = refl; alone_whole = refl; joined = λ value. refl; joined_part = λ value. unequal 6 (length (codes "--rows" ++ codes "=" ++ value)) _ refl (omega arith); joined_value = λ value. refl })
 option_is part.Lookback name h = subst (IsOption part.Lookback) (some_is (codes "--lookback") name h) (record { alone = refl; alone_whole = refl; joined = λ value. refl; joined_part = λ value. unequal 10 (length (codes "--lookback" ++ codes "=" ++ value)) _ refl (omega arith); joined_value = λ value. refl })
+option_is part.Schedule name h = subst (IsOption part.Schedule) (some_is (codes "--schedule") name h) (record { alone = refl; alone_whole = refl; joined = λ value. refl; joined_part = λ value. unequal 10 (length (codes "--schedule" ++ codes "=" ++ value)) _ refl (omega arith); joined_value = λ value. refl })
 
 untrue : (b : Bool) → not b ≡ true → b ≡ false
 untrue true h = absurd (false≢true h)
 untrue false h = refl
 
 other_named : (x : ℕ) (l : List ℕ) → (x == 45) ≡ false → option_named (x ∷ l) ≡ None
-other_named x l e = ap (λ b. if b && bytes_eq l (codes "-table") then Some part.Table else (if b && bytes_eq l (codes "-index") then Some part.Index else (if b && bytes_eq l (codes "-kind") then Some part.Kind else (if b && bytes_eq l (codes "-number") then Some part.Number else (if b && bytes_eq l (codes "-rows") then Some part.Rows else (if b && bytes_eq l (codes "-lookback") then Some part.Lookback else None)))))) e
+other_named x l e = ap (λ b. if b && bytes_eq l (codes "-table") then Some part.Table else (if b && bytes_eq l (codes "-index") then Some part.Index else (if b && bytes_eq l (codes "-kind") then Some part.Kind else (if b && bytes_eq l (codes "-number") then Some part.Number else (if b && bytes_eq l (codes "-rows") then Some part.Rows else (if b && bytes_eq l (codes "-lookback") then Some part.Lookback else (if b && bytes_eq l (codes "-schedule") then Some part.Schedule else None))))))) e
 
 front_named : (n x : ℕ) (l : List ℕ) → (x == 45) ≡ false → option_named (take n (x ∷ l)) ≡ None
 front_named zero x l e = refl
@@ -130,6 +133,7 @@ keeps_waiting s x p v h = elim (value_in s p) as (λ o. (if is_some o then None 
     same part.Number = refl
     same part.Rows = refl
     same part.Lookback = refl
+    same part.Schedule = refl
 
 -- a folder, an option with its value, and the two in one word, behind what was said before
 module _ (s : SeenSaid) (calm : s.awaits ≡ None) where
@@ -287,6 +291,8 @@ value_with s part.Rows part.Rows v = refl
 value_with s part.Rows p v = refl
 value_with s part.Lookback part.Lookback v = refl
 value_with s part.Lookback p v = refl
+value_with s part.Schedule part.Schedule v = refl
+value_with s part.Schedule p v = refl
 
 same_part : (q p : Part) → is_same q p ≡ true → q ≡ p
 same_part part.Folder part.Folder h = refl
@@ -296,6 +302,7 @@ same_part part.Kind part.Kind h = refl
 same_part part.Number part.Number h = refl
 same_part part.Rows part.Rows h = refl
 same_part part.Lookback part.Lookback h = refl
+same_part part.Schedule part.Schedule h = refl
 same_part q p h = absurd (false≢true h)
 
 same_itself : (p : Part) → is_same p p ≡ true
@@ -306,6 +313,7 @@ same_itself part.Kind = refl
 same_itself part.Number = refl
 same_itself part.Rows = refl
 same_itself part.Lookback = refl
+same_itself part.Schedule = refl
 
 given_once : (s x : SeenSaid) (p : Part) (v : List ℕ) → give s p v ≡ Some x → (value_in s p ≡ None) × (x ≡ with_value s p v)
 given_once s x p v h = elim (value_in s p) as (λ o. (if is_some o then None else Some (with_value s p v)) ≡ Some x → (o ≡ None) × (x ≡ with_value s p v)) [
@@ -361,8 +369,9 @@ all_given [] s t st =
     let d : s.number ≡ t.number = sym (unlisted t.number s.number (st.values part.Number)) in
     let r : s.rows ≡ t.rows = sym (unlisted t.rows s.rows (st.values part.Rows)) in
     let k : s.lookback ≡ t.lookback = sym (unlisted t.lookback s.lookback (st.values part.Lookback)) in
+    let l : s.schedule ≡ t.schedule = sym (unlisted t.schedule s.schedule (st.values part.Schedule)) in
     let w : s.awaits ≡ t.awaits = sym st.awaits in
-    ap Some (λ i. record { folder = f i; table = a i; index = b i; kind = c i; number = d i; rows = r i; lookback = k i; awaits = w i })
+    ap Some (λ i. record { folder = f i; table = a i; index = b i; kind = c i; number = d i; rows = r i; lookback = k i; schedule = l i; awaits = w i })
 all_given (g ∷ gs) s t st =
     let v = g.value in
     let p = g.part in
@@ -456,31 +465,145 @@ lookback_read text n h = option_and_then_some some_lookback (number_named text) 
     by_parts m named false few e = absurd (none_some n e)
 
 -- the text of a lookback, where it is given
-given_lookback : (lookback : ℕ) (gs : List GivenPart) → GivesRun lookback gs → Option (List ℕ)
+given_lookback : (lookback : ℕ) (gs : List GivenPart) → KeepsVersions lookback gs → Option (List ℕ)
 given_lookback lookback gs (inl none) = None
 given_lookback lookback gs (inr g) = Some g.text
 
-lookback_listed : (lookback : ℕ) (gs : List GivenPart) (a : GivesRun lookback gs) → listed (given_lookback lookback gs a) ≡ values_given part.Lookback gs
+lookback_listed : (lookback : ℕ) (gs : List GivenPart) (a : KeepsVersions lookback gs) → listed (given_lookback lookback gs a) ≡ values_given part.Lookback gs
 unfolding given_lookback
 lookback_listed lookback gs (inl none) = sym none.0
 lookback_listed lookback gs (inr g) = sym g.given
 
-lookback_is : (lookback : ℕ) (gs : List GivenPart) (a : GivesRun lookback gs) → lookback_in (given_lookback lookback gs a) ≡ Some lookback
+lookback_is : (lookback : ℕ) (gs : List GivenPart) (a : KeepsVersions lookback gs) → lookback_in (given_lookback lookback gs a) ≡ Some lookback
 unfolding given_lookback
 lookback_is lookback gs (inl none) = ap Some (sym none.1)
 lookback_is lookback gs (inr g) = lookback_of g.text lookback g.is_number g.few
 
+-- a session is read of its number
+session_of : (text : List ℕ) (n : ℕ) → IsSession text n → session_named text ≡ Some n
+session_of text n h =
+    let least : nat_le 1 n ≡ true = le-leb 1 n h.some in
+    let most : nat_le n 32 ≡ true = le-leb n 32 h.few in
+    ap (option_and_then some_session) (number_of text n h.is_number) ∙ (λ i. if least i && most i then Some n else None)
+
+session_read : (text : List ℕ) (n : ℕ) → session_named text ≡ Some n → IsSession text n
+session_read text n h = option_and_then_some some_session (number_named text) n h (λ m named e. by_parts m named (nat_le 1 m) (nat_le m 32) refl refl e)
+  where
+    by_parts : (m : ℕ) → number_named text ≡ Some m → (a b : Bool) → nat_le 1 m ≡ a → nat_le m 32 ≡ b → (if a && b then Some m else None) ≡ Some n → IsSession text n
+    by_parts m named true true some few e = subst (IsSession text) (some_is m n e) (record { is_number = number_read text m named; some = leb-true 1 m some; few = leb-true m 32 few })
+    by_parts m named true false some few e = absurd (none_some n e)
+    by_parts m named false b some few e = absurd (none_some n e)
+
+-- where one more may be named
+among_of : (most : ℕ) (text : List ℕ) (n : ℕ) → 0 < most → IsSession text n → session_among most text ≡ Some n
+among_of most text n some h = ap (λ b. if b then None else session_named text) (unequal most 0 (most == 0) refl (omega (arith, some))) ∙ session_of text n h
+
+among_read : (most : ℕ) (text : List ℕ) (n : ℕ) → session_among most text ≡ Some n → (0 < most) × IsSession text n
+among_read most text n h = by (most == 0) refl h
+  where
+    by : (b : Bool) → (most == 0) ≡ b → (if b then None else session_named text) ≡ Some n → (0 < most) × IsSession text n
+    by true e j = absurd (none_some n j)
+    by false e j = (let other : most ≢ 0 = eqb-false most 0 e in omega (arith, other), session_read text n j)
+
+-- a list is read of its names
+list_of : (rest : List (List ℕ)) (first : List ℕ) (ns : List ℕ) (most : ℕ) → AreSessions (first ∷ rest) ns → length ns ≤ most → sessions_from most [] (with_commas first rest) ≡ Some ns
+list_of rest first [] most each few = absurd each
+list_of [] first (n ∷ []) most each few =
+    ap (sessions_from most []) (sym (append-nil first))
+    ∙ (digits_pass first [] [] most (numerals.from first each.0.is_number.digits.1)
+    ∙ ap (option_map (λ m. m ∷ [])) (among_of most first n (omega (arith, few)) each.0))
+list_of [] first (n ∷ m ∷ ns) most each few = absurd each.1
+list_of (next ∷ rest) first (n ∷ ns) most each few =
+    let less : length ns ≤ most - 1 = omega (arith, few) in
+    ap (sessions_from most []) (append_assoc first (codes ",") (with_commas next rest))
+    ∙ (digits_pass first (44 ∷ with_commas next rest) [] most (numerals.from first each.0.is_number.digits.1)
+    ∙ (ap (option_and_then (λ m. option_map (λ ms. m ∷ ms) (sessions_from (most - 1) [] (with_commas next rest)))) (among_of most first n (omega (arith, few)) each.0)
+    ∙ ap (option_map (λ ms. n ∷ ms)) (list_of rest next ns (most - 1) each.1 less)))
+
+-- the names of a list that was read, where some bytes of the first one were read before
+record WasListed (most : ℕ) (begun text ns : List ℕ) : Type 0 where
+  first : List ℕ
+  rest : List (List ℕ)
+  joined : begun ++ text ≡ with_commas first rest
+  each : AreSessions (first ∷ rest) ns
+  few : length ns ≤ most
+
+list_read : (text begun : List ℕ) (most : ℕ) (ns : List ℕ) → sessions_from most begun text ≡ Some ns → WasListed most begun text ns
+list_read [] begun most ns h = by (session_among most begun) refl h
+  where
+    by : (o : Option ℕ) → session_among most begun ≡ o → option_map (λ n. n ∷ []) o ≡ Some ns → WasListed most begun [] ns
+    by None named e = absurd (none_some ns e)
+    by (Some n) named e =
+        let is = among_read most begun n named in
+        let some = is.0 in
+        subst (WasListed most begun []) (some_is (n ∷ []) ns e) (record { first = begun; rest = []; joined = append-nil begun; each = (is.1, tt); few = omega (arith, some) })
+list_read (x ∷ xs) begun most ns h = by (list_read xs) (x == 44) refl h
+  where
+    Reads : Type 0
+    Reads = (front : List ℕ) (left : ℕ) (ms : List ℕ) → sessions_from left front xs ≡ Some ms → WasListed left front xs ms
+
+    by_more : Reads → (n : ℕ) → x ≡ 44 → session_among most begun ≡ Some n → (o : Option (List ℕ)) → sessions_from (most - 1) [] xs ≡ o → option_map (λ ms. n ∷ ms) o ≡ Some ns → WasListed most begun (x ∷ xs) ns
+    by_more reads n comma named None behind e = absurd (none_some ns e)
+    by_more reads n comma named (Some ms) behind e =
+        let is = among_read most begun n named in
+        let some = is.0 in
+        let r : WasListed (most - 1) [] xs ms = reads [] (most - 1) ms behind in
+        let less : length ms ≤ most - 1 = r.few in
+        let parts : begun ++ (x ∷ xs) ≡ begun ++ codes "," ++ with_commas r.first r.rest = ap (λ (y : ℕ). begun ++ (y ∷ xs)) comma ∙ (sym (append_assoc begun (codes ",") xs) ∙ ap (λ (l : List ℕ). begun ++ codes "," ++ l) r.joined) in
+        subst (WasListed most begun (x ∷ xs)) (some_is (n ∷ ms) ns e) (record { first = begun; rest = r.first ∷ r.rest; joined = parts; each = (is.1, r.each); few = omega (arith, some, less) })
+
+    by_name : Reads → x ≡ 44 → (o : Option ℕ) → session_among most begun ≡ o → option_and_then (λ n. option_map (λ ms. n ∷ ms) (sessions_from (most - 1) [] xs)) o ≡ Some ns → WasListed most begun (x ∷ xs) ns
+    by_name reads comma None named e = absurd (none_some ns e)
+    by_name reads comma (Some n) named e = by_more reads n comma named (sessions_from (most - 1) [] xs) refl e
+
+    by : Reads → (b : Bool) → (x == 44) ≡ b → (if b then option_and_then (λ n. option_map (λ ms. n ∷ ms) (sessions_from (most - 1) [] xs)) (session_among most begun) else sessions_from most (begun ++ (x ∷ [])) xs) ≡ Some ns → WasListed most begun (x ∷ xs) ns
+    by reads true comma e = by_name reads (eqb-true x 44 comma) (session_among most begun) refl e
+    by reads false other e =
+        let r : WasListed most (begun ++ (x ∷ [])) xs ns = reads (begun ++ (x ∷ [])) most ns e in
+        record { first = r.first; rest = r.rest; joined = sym (append_assoc begun (x ∷ []) xs) ∙ r.joined; each = r.each; few = r.few }
+
+schedule_of : (text ns : List ℕ) → IsSchedule text ns → sessions_named text ≡ Some ns
+schedule_of text ns h = ap sessions_named h.joined ∙ list_of h.rest h.first ns 65535 h.each h.few
+
+schedule_read : (text ns : List ℕ) → sessions_named text ≡ Some ns → IsSchedule text ns
+schedule_read text ns h = (let r = list_read text [] 65535 ns h in record { first = r.first; rest = r.rest; joined = r.joined; each = r.each; few = r.few })
+
+-- the text of a list, where it is given
+given_schedule : (schedule : Option (List ℕ)) (gs : List GivenPart) → GivesSchedule schedule gs → Option (List ℕ)
+given_schedule None gs none = None
+given_schedule (Some ns) gs g = Some g.text
+
+schedule_listed : (schedule : Option (List ℕ)) (gs : List GivenPart) (a : GivesSchedule schedule gs) → listed (given_schedule schedule gs a) ≡ values_given part.Schedule gs
+unfolding given_schedule
+schedule_listed None gs none = sym none
+schedule_listed (Some ns) gs g = sym g.given
+
+schedule_is : (schedule : Option (List ℕ)) (gs : List GivenPart) (a : GivesSchedule schedule gs) → schedule_in (given_schedule schedule gs a) ≡ Some schedule
+unfolding given_schedule
+schedule_is None gs none = refl
+schedule_is (Some ns) gs g = ap (option_map (λ ms. Some ms)) (schedule_of g.text ns g.is_list)
+
 -- the parts that spell a command, and what they come to
 said_for : (c : SeenCommand) (word : List ℕ) (gs : List GivenPart) → Asks c word gs → SeenSaid
-said_for (Run folder lookback) word gs a = record { folder = Some folder; table = None; index = None; kind = None; number = None; rows = None; lookback = given_lookback lookback gs a.4; awaits = None }
-said_for (Verify folder table index k) word gs a = record { folder = Some folder; table = Some table; index = Some index; kind = Some (kind_word k); number = None; rows = None; lookback = None; awaits = None }
-said_for (Load folder l) word gs a = record { folder = Some folder; table = None; index = None; kind = None; number = Some a.3.number; rows = Some a.3.rows; lookback = None; awaits = None }
+said_for (Run folder lookback schedule) word gs a = record {
+  folder = Some folder;
+  table = None;
+  index = None;
+  kind = None;
+  number = None;
+  rows = None;
+  lookback = given_lookback lookback gs a.4;
+  schedule = given_schedule schedule gs a.5;
+  awaits = None;
+}
+said_for (Verify folder table index k) word gs a = record { folder = Some folder; table = Some table; index = Some index; kind = Some (kind_word k); number = None; rows = None; lookback = None; schedule = None; awaits = None }
+said_for (Load folder l) word gs a = record { folder = Some folder; table = None; index = None; kind = None; number = Some a.3.number; rows = Some a.3.rows; lookback = None; schedule = None; awaits = None }
 
 settles : (c : SeenCommand) (word : List ℕ) (gs : List GivenPart) (a : Asks c word gs) → Settled nothing gs (said_for c word gs a)
 unfolding said_for
-settles (Run folder lookback) word gs a = record { values = by_part; awaits = refl }
+settles (Run folder lookback schedule) word gs a = record { values = by_part; awaits = refl }
   where
-    by_part : (q : Part) → listed (value_in (said_for (Run folder lookback) word gs a) q) ≡ listed (value_in nothing q) ++ values_given q gs
+    by_part : (q : Part) → listed (value_in (said_for (Run folder lookback schedule) word gs a) q) ≡ listed (value_in nothing q) ++ values_given q gs
     by_part part.Folder = sym a.1
     by_part part.Table = sym a.2.0
     by_part part.Index = sym a.2.1
@@ -488,6 +611,7 @@ settles (Run folder lookback) word gs a = record { values = by_part; awaits = re
     by_part part.Number = sym a.3.0
     by_part part.Rows = sym a.3.1
     by_part part.Lookback = lookback_listed lookback gs a.4
+    by_part part.Schedule = schedule_listed schedule gs a.5
 settles (Verify folder table index k) word gs a = record { values = by_part; awaits = refl }
   where
     by_part : (q : Part) → listed (value_in (said_for (Verify folder table index k) word gs a) q) ≡ listed (value_in nothing q) ++ values_given q gs
@@ -497,7 +621,8 @@ settles (Verify folder table index k) word gs a = record { values = by_part; awa
     by_part part.Kind = sym a.2.2
     by_part part.Number = sym a.3.0
     by_part part.Rows = sym a.3.1
-    by_part part.Lookback = sym a.4
+    by_part part.Lookback = sym a.4.0
+    by_part part.Schedule = sym a.4.1
 settles (Load folder l) word gs a = record { values = by_part; awaits = refl }
   where
     by_part : (q : Part) → listed (value_in (said_for (Load folder l) word gs a) q) ≡ listed (value_in nothing q) ++ values_given q gs
@@ -507,12 +632,15 @@ settles (Load folder l) word gs a = record { values = by_part; awaits = refl }
     by_part part.Kind = sym a.2.2
     by_part part.Number = sym a.3.number_given
     by_part part.Rows = sym a.3.rows_given
-    by_part part.Lookback = sym a.4
+    by_part part.Lookback = sym a.4.0
+    by_part part.Schedule = sym a.4.1
 
 commands : (c : SeenCommand) (word : List ℕ) (gs : List GivenPart) (a : Asks c word gs) → command_of word (said_for c word gs a) ≡ Some c
 unfolding said_for
-commands (Run folder lookback) word gs a =
-    ap (λ (w : List ℕ). command_of w (said_for (Run folder lookback) word gs a)) a.0 ∙ ap (option_map (λ n. Run folder n)) (lookback_is lookback gs a.4)
+commands (Run folder lookback schedule) word gs a =
+    ap (λ (w : List ℕ). command_of w (said_for (Run folder lookback schedule) word gs a)) a.0
+    ∙ (ap (option_and_then (λ n. option_map (λ l. Run folder n l) (schedule_in (given_schedule schedule gs a.5)))) (lookback_is lookback gs a.4)
+    ∙ ap (option_map (λ l. Run folder lookback l)) (schedule_is schedule gs a.5))
 commands (Verify folder table index k) word gs a =
     ap (λ (w : List ℕ). command_of w (said_for (Verify folder table index k) word gs a)) a.0 ∙ ap (option_map (λ x. Verify folder table index x)) (kind_of_word k)
 commands (Load folder l) word gs a =
@@ -538,6 +666,7 @@ given_here gs t st q v is = sym (st.values q ∙ none_first q) ∙ ap listed is
     none_first part.Number = refl
     none_first part.Rows = refl
     none_first part.Lookback = refl
+    none_first part.Schedule = refl
 
 not_given : (gs : List GivenPart) (t : SeenSaid) → Settled nothing gs t → (q : Part) → value_in t q ≡ None → values_given q gs ≡ []
 not_given gs t st q none = sym (st.values q ∙ none_first q) ∙ ap listed none
@@ -550,6 +679,7 @@ not_given gs t st q none = sym (st.values q ∙ none_first q) ∙ ap listed none
     none_first part.Number = refl
     none_first part.Rows = refl
     none_first part.Lookback = refl
+    none_first part.Schedule = refl
 
 module _ (gs : List GivenPart) (t : SeenSaid) (st : Settled nothing gs t) (c : SeenCommand) where
   no_verify : t.table ≡ None → t.index ≡ None → t.kind ≡ None → HasNoVerify gs
@@ -558,15 +688,16 @@ module _ (gs : List GivenPart) (t : SeenSaid) (st : Settled nothing gs t) (c : S
   no_load : t.number ≡ None → t.rows ≡ None → HasNoLoad gs
   no_load tn tr = (not_given gs t st part.Number tn, not_given gs t st part.Rows tr)
 
-  no_run : t.lookback ≡ None → HasNoRun gs
-  no_run tl = not_given gs t st part.Lookback tl
+  no_run : t.lookback ≡ None → t.schedule ≡ None → HasNoRun gs
+  no_run tl ts = (not_given gs t st part.Lookback tl, not_given gs t st part.Schedule ts)
 
-  without_run : {A : Type 0} → has_run t ≡ false → (t.lookback ≡ None → A) → A
-  without_run {A} h go = by_option t.lookback refl h
+  without_run : {A : Type 0} → has_run t ≡ false → (t.lookback ≡ None → t.schedule ≡ None → A) → A
+  without_run {A} h go = by_options t.lookback t.schedule refl refl h
     where
-      by_option : (o : Option (List ℕ)) → t.lookback ≡ o → is_some o ≡ false → A
-      by_option None tl e = go tl
-      by_option (Some x) tl e = absurd (false≢true (sym e))
+      by_options : (l n : Option (List ℕ)) → t.lookback ≡ l → t.schedule ≡ n → (is_some l || is_some n) ≡ false → A
+      by_options None None tl ts e = go tl ts
+      by_options (Some x) n tl ts e = absurd (false≢true (sym e))
+      by_options None (Some x) tl ts e = absurd (false≢true (sym e))
 
   -- where no option of a command was given, it has none
   without_verify : {A : Type 0} → has_verified t ≡ false → (t.table ≡ None → t.index ≡ None → t.kind ≡ None → A) → A
@@ -586,24 +717,40 @@ module _ (gs : List GivenPart) (t : SeenSaid) (st : Settled nothing gs t) (c : S
       by_options (Some x) r tn tr e = absurd (false≢true (sym e))
       by_options None (Some x) tn tr e = absurd (false≢true (sym e))
 
-  gives_run : (o : Option (List ℕ)) → t.lookback ≡ o → (lookback : ℕ) → lookback_in o ≡ Some lookback → GivesRun lookback gs
-  gives_run None tl lookback e = inl (no_run tl, sym (some_is usual_lookback lookback e))
-  gives_run (Some text) tl lookback e = (let has = lookback_read text lookback e in inr (record { text = text; given = given_here gs t st part.Lookback text tl; is_number = has.is_number; few = has.few }))
+  keeps_versions : (o : Option (List ℕ)) → t.lookback ≡ o → (lookback : ℕ) → lookback_in o ≡ Some lookback → KeepsVersions lookback gs
+  keeps_versions None tl lookback e = inl (not_given gs t st part.Lookback tl, sym (some_is usual_lookback lookback e))
+  keeps_versions (Some text) tl lookback e = (let has = lookback_read text lookback e in inr (record { text = text; given = given_here gs t st part.Lookback text tl; is_number = has.is_number; few = has.few }))
+
+  gives_schedule : (o : Option (List ℕ)) → t.schedule ≡ o → (schedule : Option (List ℕ)) → schedule_in o ≡ Some schedule → GivesSchedule schedule gs
+  gives_schedule None ts schedule e = subst (λ (x : Option (List ℕ)). GivesSchedule x gs) (some_is None schedule e) (not_given gs t st part.Schedule ts)
+  gives_schedule (Some text) ts schedule e = by_list (sessions_named text) refl e
+    where
+      by_list : (r : Option (List ℕ)) → sessions_named text ≡ r → option_map (λ ns. Some ns) r ≡ Some schedule → GivesSchedule schedule gs
+      by_list None named j = absurd (none_some schedule j)
+      by_list (Some ns) named j = subst (λ (x : Option (List ℕ)). GivesSchedule x gs) (some_is (Some ns) schedule j) (record { text = text; given = given_here gs t st part.Schedule text ts; is_list = schedule_read text ns named })
 
   asks_run : (word : List ℕ) → word ≡ codes "run" → run_of t ≡ Some c → Asks c word gs
   asks_run word is h = by_options (has_verified t) (has_loaded t) refl refl h
     where
-      by_lookback : HasNoVerify gs → HasNoLoad gs → (folder : List ℕ) → t.folder ≡ Some folder → (o : Option ℕ) → lookback_in t.lookback ≡ o → option_map (λ lookback. Run folder lookback) o ≡ Some c → Asks c word gs
-      by_lookback verify load folder tf (Some lookback) tl e =
-          let which : Run folder lookback ≡ c = some_is (Run folder lookback) c e in
-          subst (λ (x : SeenCommand). Asks x word gs) which (is, given_here gs t st part.Folder folder tf, verify, load, gives_run t.lookback refl lookback tl)
+      by_schedule : HasNoVerify gs → HasNoLoad gs → (folder : List ℕ) → t.folder ≡ Some folder → (lookback : ℕ) → lookback_in t.lookback ≡ Some lookback
+          → (o : Option (Option (List ℕ))) → schedule_in t.schedule ≡ o → option_map (λ schedule. Run folder lookback schedule) o ≡ Some c → Asks c word gs
+      by_schedule verify load folder tf lookback tl (Some schedule) ts e =
+          let which : Run folder lookback schedule ≡ c = some_is (Run folder lookback schedule) c e in
+          subst (λ (x : SeenCommand). Asks x word gs) which (is, given_here gs t st part.Folder folder tf, verify, load, keeps_versions t.lookback refl lookback tl, gives_schedule t.schedule refl schedule ts)
+      by_schedule verify load folder tf lookback tl None ts e = absurd (none_some c e)
+
+      by_lookback : HasNoVerify gs → HasNoLoad gs → (folder : List ℕ) → t.folder ≡ Some folder → (o : Option ℕ) → lookback_in t.lookback ≡ o
+          → option_and_then (λ lookback. option_map (λ schedule. Run folder lookback schedule) (schedule_in t.schedule)) o ≡ Some c → Asks c word gs
+      by_lookback verify load folder tf (Some lookback) tl e = by_schedule verify load folder tf lookback tl (schedule_in t.schedule) refl e
       by_lookback verify load folder tf None tl e = absurd (none_some c e)
 
-      by_folder : HasNoVerify gs → HasNoLoad gs → (f : Option (List ℕ)) → t.folder ≡ f → option_and_then (λ folder. option_map (λ lookback. Run folder lookback) (lookback_in t.lookback)) f ≡ Some c → Asks c word gs
+      by_folder : HasNoVerify gs → HasNoLoad gs → (f : Option (List ℕ)) → t.folder ≡ f
+          → option_and_then (λ folder. option_and_then (λ lookback. option_map (λ schedule. Run folder lookback schedule) (schedule_in t.schedule)) (lookback_in t.lookback)) f ≡ Some c → Asks c word gs
       by_folder verify load (Some folder) tf e = by_lookback verify load folder tf (lookback_in t.lookback) refl e
       by_folder verify load None tf e = absurd (none_some c e)
 
-      by_options : (v l : Bool) → has_verified t ≡ v → has_loaded t ≡ l → (if v || l then None else option_and_then (λ folder. option_map (λ lookback. Run folder lookback) (lookback_in t.lookback)) t.folder) ≡ Some c → Asks c word gs
+      by_options : (v l : Bool) → has_verified t ≡ v → has_loaded t ≡ l
+          → (if v || l then None else option_and_then (λ folder. option_and_then (λ lookback. option_map (λ schedule. Run folder lookback schedule) (schedule_in t.schedule)) (lookback_in t.lookback)) t.folder) ≡ Some c → Asks c word gs
       by_options false false tv tl e = without_verify tv (λ ta tb tk. without_load tl (λ tn tr. by_folder (no_verify ta tb tk) (no_load tn tr) t.folder refl e))
       by_options true l tv tl e = absurd (none_some c e)
       by_options false true tv tl e = absurd (none_some c e)
@@ -628,7 +775,7 @@ module _ (gs : List GivenPart) (t : SeenSaid) (st : Settled nothing gs t) (c : S
 
       by_others : (l n : Bool) → has_loaded t ≡ l → has_run t ≡ n
           → (if l || n then None else option_and_then (λ folder. option_and_then (λ table. option_and_then (λ index. option_map (λ x. Verify folder table index x) (option_and_then kind_named t.kind)) t.index) t.table) t.folder) ≡ Some c → Asks c word gs
-      by_others false false tl tn e = without_load tl (λ tm tr. without_run tn (λ tk. by_options (no_load tm tr) (no_run tk) t.folder t.table t.index t.kind refl refl refl refl e))
+      by_others false false tl tn e = without_load tl (λ tm tr. without_run tn (λ tk ts. by_options (no_load tm tr) (no_run tk ts) t.folder t.table t.index t.kind refl refl refl refl e))
       by_others true n tl tn e = absurd (none_some c e)
       by_others false true tl tn e = absurd (none_some c e)
 
@@ -671,7 +818,7 @@ module _ (gs : List GivenPart) (t : SeenSaid) (st : Settled nothing gs t) (c : S
 
       by_others : (v n : Bool) → has_verified t ≡ v → has_run t ≡ n
           → (if v || n then None else option_and_then (λ folder. option_and_then (λ number. option_map (λ rows. load folder number rows) (option_and_then rows_named t.rows)) (option_and_then number_named t.number)) t.folder) ≡ Some c → Asks c word gs
-      by_others false false tv tn e = without_verify tv (λ ta tb tk. without_run tn (λ tl. by_options (no_verify ta tb tk) (no_run tl) t.folder t.number t.rows refl refl refl e))
+      by_others false false tv tn e = without_verify tv (λ ta tb tk. without_run tn (λ tl ts. by_options (no_verify ta tb tk) (no_run tl ts) t.folder t.number t.rows refl refl refl e))
       by_others true n tv tn e = absurd (none_some c e)
       by_others false true tv tn e = absurd (none_some c e)
 

@@ -1,6 +1,7 @@
 -- The words after the program's name.
-use Rattle.std.specs.Prelude.{ℕ, Bool, false, ◌==◌, ◌||◌, ◌&&◌, ◌^◌, nat_le, nat_lt, not, if◌then◌else◌, List, [], ◌∷◌, length, codes, Option, None, Some, option_map, option_and_then, option_copied}
-use Rattle.std.specs.Option.{is_some}
+use Rattle.std.specs.Prelude.{ℕ, Bool, false, ◌==◌, ◌||◌, ◌&&◌, ◌^◌, ◌-◌, nat_le, nat_lt, not, if◌then◌else◌, List, [], ◌∷◌, ◌++◌, length, codes, Option, None, Some, option_map, option_and_then, option_copied}
+use Rattle.std.specs.Borrow.{Bor}
+use Rattle.std.specs.Option.{is_some, unwrap_or}
 use Rattle.std.specs.List.{before_first, after_first}
 use Rattle.std.specs.Str.{all_ascii_digits, bytes_eq}
 use Rattle.std.specs.Str.Parse.{digits_value}
@@ -30,7 +31,8 @@ option_named word = if bytes_eq word (codes "--table") then Some part.Table
     else (if bytes_eq word (codes "--number") then Some part.Number
     else (if bytes_eq word (codes "--rows") then Some part.Rows
     else (if bytes_eq word (codes "--lookback") then Some part.Lookback
-    else None)))))
+    else (if bytes_eq word (codes "--schedule") then Some part.Schedule
+    else None))))))
 
 abbrev pub kind_named : List ℕ → Option VerifyKind
 kind_named word = if bytes_eq word (codes "NONE") then Some kind.None
@@ -66,6 +68,36 @@ abbrev pub lookback_in : Option (List ℕ) → Option ℕ
 lookback_in None = Some usual_lookback
 lookback_in (Some word) = lookback_named word
 
+-- a session has a number from 1 to 32
+abbrev pub some_session : ℕ → Option ℕ
+some_session n = if nat_le 1 n && nat_le n 32 then Some n else None
+
+abbrev pub session_named : List ℕ → Option ℕ
+session_named word = option_and_then some_session (number_named word)
+
+-- a session, where so many may still be named
+abbrev pub session_among : (most : ℕ) → List ℕ → Option ℕ
+session_among most word = if most == 0 then None else session_named word
+
+-- the sessions that a list names, at most so many, where these bytes of the first name were read before
+abbrev pub sessions_from : (most : ℕ) → (begun : List ℕ) → List ℕ → Option (List ℕ)
+sessions_from most begun [] = option_map (λ n. n ∷ []) (session_among most begun)
+sessions_from most begun (b ∷ bs) = if b == 44 then option_and_then (λ n. option_map (λ ns. n ∷ ns) (sessions_from (most - 1) [] bs)) (session_among most begun)
+    else sessions_from most (begun ++ (b ∷ [])) bs
+
+-- the sessions that a list names, joined by commas: 65,535 at most
+abbrev pub sessions_named : List ℕ → Option (List ℕ)
+sessions_named word = sessions_from 65535 [] word
+
+-- so, and of any other text none
+abbrev pub sessions_listed : List ℕ → List ℕ
+sessions_listed word = unwrap_or (sessions_named word) []
+
+-- the sessions whose steps are next, by the option's value, where it is given
+abbrev pub schedule_in : Option (List ℕ) → Option (Option (List ℕ))
+schedule_in None = Some None
+schedule_in (Some word) = option_map (λ ns. Some ns) (sessions_named word)
+
 -- 2. What words say, one after another
 
 -- the folder, the values of the options, and the option whose value is the next word
@@ -77,13 +109,14 @@ pub record SeenSaid : Type 0 where
   pub number : Option (List ℕ)
   pub rows : Option (List ℕ)
   pub lookback : Option (List ℕ)
+  pub schedule : Option (List ℕ)
   pub awaits : Option Part
 
 abbrev pub seen_said : Said → SeenSaid
-seen_said s = record { folder = option_copied s.folder; table = option_copied s.table; index = option_copied s.index; kind = option_copied s.kind; number = option_copied s.number; rows = option_copied s.rows; lookback = option_copied s.lookback; awaits = s.awaits }
+seen_said s = record { folder = option_copied s.folder; table = option_copied s.table; index = option_copied s.index; kind = option_copied s.kind; number = option_copied s.number; rows = option_copied s.rows; lookback = option_copied s.lookback; schedule = option_copied s.schedule; awaits = s.awaits }
 
 abbrev pub nothing : SeenSaid
-nothing = record { folder = None; table = None; index = None; kind = None; number = None; rows = None; lookback = None; awaits = None }
+nothing = record { folder = None; table = None; index = None; kind = None; number = None; rows = None; lookback = None; schedule = None; awaits = None }
 
 -- the value that was given to a part
 abbrev pub value_in : SeenSaid → Part → Option (List ℕ)
@@ -94,6 +127,7 @@ value_in s part.Kind = s.kind
 value_in s part.Number = s.number
 value_in s part.Rows = s.rows
 value_in s part.Lookback = s.lookback
+value_in s part.Schedule = s.schedule
 
 abbrev pub with_value : SeenSaid → Part → List ℕ → SeenSaid
 with_value s part.Folder value = record s { folder = Some value }
@@ -103,6 +137,7 @@ with_value s part.Kind value = record s { kind = Some value }
 with_value s part.Number value = record s { number = Some value }
 with_value s part.Rows value = record s { rows = Some value }
 with_value s part.Lookback value = record s { lookback = Some value }
+with_value s part.Schedule value = record s { schedule = Some value }
 
 -- each part is given once
 abbrev pub give : SeenSaid → Part → List ℕ → Option SeenSaid
@@ -132,18 +167,23 @@ said_from s (word ∷ words) = option_and_then (λ more. said_from more words) (
 
 -- 3. Commands
 
+-- of a run the sessions whose steps are next, where they are listed
 pub data SeenCommand : Type 0 where
-  Run : (folder : List ℕ) → (lookback : ℕ) → SeenCommand
+  Run : (folder : List ℕ) → (lookback : ℕ) → (schedule : Option (List ℕ)) → SeenCommand
   Verify : (folder table index : List ℕ) → VerifyKind → SeenCommand
   Load : (folder : List ℕ) → Loads → SeenCommand
 
+-- a list as it was written, as the sessions that it names
+abbrev pub listed_in : Option (Bor (List ℕ)) → Option (List ℕ)
+listed_in list = option_map sessions_listed (option_copied list)
+
 abbrev pub seen_command : Command → SeenCommand
-seen_command (command.Run folder lookback) = Run folder.now lookback
+seen_command (command.Run folder lookback schedule) = Run folder.now lookback (listed_in schedule)
 seen_command (command.Verify folder table index kind) = Verify folder.now table.now index.now kind
 seen_command (command.Load folder load) = Load folder.now load
 
 abbrev pub command_folder : SeenCommand → List ℕ
-command_folder (Run folder lookback) = folder
+command_folder (Run folder lookback schedule) = folder
 command_folder (Verify folder table index kind) = folder
 command_folder (Load folder load) = folder
 
@@ -157,11 +197,12 @@ has_loaded s = is_some s.number || is_some s.rows
 
 -- an option of `run` was
 abbrev pub has_run : SeenSaid → Bool
-has_run s = is_some s.lookback
+has_run s = is_some s.lookback || is_some s.schedule
 
--- `run DIR`, or `run DIR --lookback N`
+-- `run DIR`, with `--lookback N` or without, and with `--schedule LIST` or without
 abbrev pub run_of : SeenSaid → Option SeenCommand
-run_of s = if has_verified s || has_loaded s then None else option_and_then (λ folder. option_map (λ lookback. Run folder lookback) (lookback_in s.lookback)) s.folder
+run_of s = if has_verified s || has_loaded s then None
+    else option_and_then (λ folder. option_and_then (λ lookback. option_map (λ schedule. Run folder lookback schedule) (schedule_in s.schedule)) (lookback_in s.lookback)) s.folder
 
 -- `verify DIR --table NAME --index NAME --kind KIND`
 abbrev pub verify_of : SeenSaid → Option SeenCommand

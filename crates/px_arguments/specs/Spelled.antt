@@ -1,5 +1,5 @@
 -- How a command is written in words.
-use Rattle.std.specs.Prelude.{ℕ, ◌≡◌, ◌≢◌, ◌<◌, ◌≤◌, ◌⊎◌, ◌^◌, Bool, true, false, if◌then◌else◌, List, [], ◌∷◌, ◌++◌, codes, Option, None, Some}
+use Rattle.std.specs.Prelude.{ℕ, ◌≡◌, ◌≢◌, ◌<◌, ◌≤◌, ◌⊎◌, ◌^◌, Bool, true, false, if◌then◌else◌, List, [], ◌∷◌, ◌++◌, length, codes, Option, None, Some}
 use Rattle.std.specs.List.{AllByRecursion}
 use Rattle.std.specs.Str.Parse.{IsNumeral, digits_value}
 use Rattle.px_load.specs.declared.script.Load.{Load as Loads}
@@ -18,6 +18,7 @@ option_word part.Kind = Some (codes "--kind")
 option_word part.Number = Some (codes "--number")
 option_word part.Rows = Some (codes "--rows")
 option_word part.Lookback = Some (codes "--lookback")
+option_word part.Schedule = Some (codes "--schedule")
 
 abbrev pub kind_word : VerifyKind → List ℕ
 kind_word kind.None = codes "NONE"
@@ -31,6 +32,31 @@ pub record IsNumber (text : List ℕ) (n : ℕ) : Type 0 where
   pub digits : IsNumeral 10 text
   pub value : digits_value 10 text ≡ n
   pub within : n < 2 ^ 64
+
+-- the number of a session, from 1 to 32
+pub record IsSession (text : List ℕ) (n : ℕ) : Type 0 where
+  pub is_number : IsNumber text n
+  pub some : 1 ≤ n
+  pub few : n ≤ 32
+
+-- each text is the number of a session
+abbrev pub AreSessions : List (List ℕ) → List ℕ → Type 0
+AreSessions [] [] = Unit {0}
+AreSessions (text ∷ texts) (n ∷ ns) = IsSession text n × AreSessions texts ns
+AreSessions texts ns = ⊥
+
+-- texts, with a comma between each two
+abbrev pub with_commas : List ℕ → List (List ℕ) → List ℕ
+with_commas first [] = first
+with_commas first (next ∷ rest) = first ++ codes "," ++ with_commas next rest
+
+-- the numbers of sessions, at least one and at most 65,535, joined by commas
+pub record IsSchedule (text : List ℕ) (sessions : List ℕ) : Type 0 where
+  pub first : List ℕ
+  pub rest : List (List ℕ)
+  pub joined : text ≡ with_commas first rest
+  pub each : AreSessions (first ∷ rest) sessions
+  pub few : length sessions ≤ 65535
 
 -- 1. Parts
 
@@ -58,6 +84,7 @@ is_same part.Kind part.Kind = true
 is_same part.Number part.Number = true
 is_same part.Rows part.Rows = true
 is_same part.Lookback part.Lookback = true
+is_same part.Schedule part.Schedule = true
 is_same p q = false
 
 -- the values that are given to a part, in order
@@ -75,11 +102,11 @@ HasNoVerify gs = (values_given part.Table gs ≡ []) × (values_given part.Index
 abbrev pub HasNoLoad : List GivenPart → Type 0
 HasNoLoad gs = (values_given part.Number gs ≡ []) × (values_given part.Rows gs ≡ [])
 
--- the option of `run` isn't
+-- no option of `run` is
 abbrev pub HasNoRun : List GivenPart → Type 0
-HasNoRun gs = values_given part.Lookback gs ≡ []
+HasNoRun gs = (values_given part.Lookback gs ≡ []) × (values_given part.Schedule gs ≡ [])
 
--- it is given once, by a number, which is the greatest stamp at most
+-- how long versions are kept is given once, by a number, which is the greatest stamp at most
 pub record GivesLookback (lookback : ℕ) (gs : List GivenPart) : Type 0 where
   pub text : List ℕ
   pub given : values_given part.Lookback gs ≡ text ∷ []
@@ -87,8 +114,19 @@ pub record GivesLookback (lookback : ℕ) (gs : List GivenPart) : Type 0 where
   pub few : lookback ≤ 9223372036854775807
 
 -- so, or it isn't, and versions are kept as long as usual
-abbrev pub GivesRun : ℕ → List GivenPart → Type 0
-GivesRun lookback gs = (HasNoRun gs × (lookback ≡ usual_lookback)) ⊎ GivesLookback lookback gs
+abbrev pub KeepsVersions : ℕ → List GivenPart → Type 0
+KeepsVersions lookback gs = ((values_given part.Lookback gs ≡ []) × (lookback ≡ usual_lookback)) ⊎ GivesLookback lookback gs
+
+-- the sessions whose steps are next are listed once
+pub record GivesList (sessions : List ℕ) (gs : List GivenPart) : Type 0 where
+  pub text : List ℕ
+  pub given : values_given part.Schedule gs ≡ text ∷ []
+  pub is_list : IsSchedule text sessions
+
+-- so, or they aren't
+abbrev pub GivesSchedule : Option (List ℕ) → List GivenPart → Type 0
+GivesSchedule None gs = values_given part.Schedule gs ≡ []
+GivesSchedule (Some sessions) gs = GivesList sessions gs
 
 -- each option of `verify` is given once
 abbrev pub GivesVerify : (table index : List ℕ) → VerifyKind → List GivenPart → Type 0
@@ -107,7 +145,7 @@ pub record GivesLoad (l : Loads) (gs : List GivenPart) : Type 0 where
 
 -- the command's own word, its folder once, and its own options
 abbrev pub Asks : SeenCommand → (word : List ℕ) → List GivenPart → Type 0
-Asks (Run folder lookback) word gs = (word ≡ codes "run") × (values_given part.Folder gs ≡ folder ∷ []) × HasNoVerify gs × HasNoLoad gs × GivesRun lookback gs
+Asks (Run folder lookback schedule) word gs = (word ≡ codes "run") × (values_given part.Folder gs ≡ folder ∷ []) × HasNoVerify gs × HasNoLoad gs × KeepsVersions lookback gs × GivesSchedule schedule gs
 Asks (Verify folder table index k) word gs = (word ≡ codes "verify") × (values_given part.Folder gs ≡ folder ∷ []) × GivesVerify table index k gs × HasNoLoad gs × HasNoRun gs
 Asks (Load folder l) word gs = (word ≡ codes "load") × (values_given part.Folder gs ≡ folder ∷ []) × HasNoVerify gs × GivesLoad l gs × HasNoRun gs
 

@@ -5,6 +5,7 @@ ghost use Rattle.px_arguments.specs.Arguments as spec;
 
 use crate::number::{lookback_named, number_named, rows_named};
 use crate::said::{Said, said_by};
+use crate::schedule::is_schedule;
 use px_load::Load;
 use px_verifying::VerifyKind;
 
@@ -14,10 +15,11 @@ pub const LOOKBACK: u64 = 259_200_000;
 /// A command of the program. Its folder and names are as they were written.
 #[derive(Clone, Copy)]
 pub enum Command<'a> {
-    /// `run DIR`, or `run DIR --lookback N`.
+    /// `run DIR`, with `--lookback N` or without, and with `--schedule LIST` or without. The list is as it was written.
     Run {
         folder: &'a str,
         lookback: u64,
+        schedule: Option<&'a str>,
     },
     /// `verify DIR --table NAME --index NAME --kind KIND`.
     Verify {
@@ -83,7 +85,7 @@ fn has_loaded(said: Said<'_>) -> bool
 fn has_run(said: Said<'_>) -> bool
     ensures { result ≡ spec.has_run (spec.seen_said said.entry) }
 {
-    said.lookback.is_some()
+    said.lookback.is_some() || said.schedule.is_some()
 }
 
 /// How long versions are kept, by the option's value where it was given.
@@ -96,6 +98,22 @@ fn lookback_in(said: Option<&str>) -> Option<u64>
     }
 }
 
+/// The list of whose step is next, where it was given. It names sessions.
+fn schedule_in(said: Option<&str>) -> Option<Option<&str>>
+    ensures { option_map spec.listed_in result ≡ spec.schedule_in (option_copied said.entry) }
+{
+    match said {
+        None => Some(None),
+        Some(list) => {
+            if is_schedule(list) {
+                Some(Some(list))
+            } else {
+                None
+            }
+        }
+    }
+}
+
 fn run_of(said: Said<'_>) -> Option<Command<'_>>
     ensures { option_map spec.seen_command result ≡ spec.run_of (spec.seen_said said.entry) }
 {
@@ -104,7 +122,12 @@ fn run_of(said: Said<'_>) -> Option<Command<'_>>
     }
     let folder = said.folder?;
     let lookback = lookback_in(said.lookback)?;
-    Some(Command::Run { folder, lookback })
+    let schedule = schedule_in(said.schedule)?;
+    Some(Command::Run {
+        folder,
+        lookback,
+        schedule,
+    })
 }
 
 fn verify_of(said: Said<'_>) -> Option<Command<'_>>

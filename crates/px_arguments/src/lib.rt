@@ -8,6 +8,8 @@ mod command;
 mod laws;
 mod number;
 mod said;
+mod schedule;
 
 pub use command::{Command, LOOKBACK, command_in};
 pub use laws::law_spelled;
+pub use schedule::sessions_listed;

@@ -41,3 +41,15 @@ pub(crate) fn lookback_named(word: &str) -> Option<u64>
         None
     }
 }
+
+/// The session of a number, which is 32 at most.
+pub(crate) fn session_named(word: &str) -> Option<u32>
+    ensures { result ≡ spec.session_named word.now }
+{
+    let number = number_named(word)?;
+    if 1 <= number && number <= 32 {
+        Some(number as u32)
+    } else {
+        None
+    }
+}

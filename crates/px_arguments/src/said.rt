@@ -13,6 +13,7 @@ pub(crate) enum Part {
     Number,
     Rows,
     Lookback,
+    Schedule,
 }
 
 /// What the words so far gave.
@@ -25,6 +26,7 @@ pub(crate) struct Said<'a> {
     pub(crate) number: Option<&'a str>,
     pub(crate) rows: Option<&'a str>,
     pub(crate) lookback: Option<&'a str>,
+    pub(crate) schedule: Option<&'a str>,
     /// The option whose value is the next word.
     awaits: Option<Part>,
 }
@@ -55,6 +57,8 @@ fn option_named(word: &str) -> Option<Part>
         Some(Part::Rows)
     } else if word == "--lookback" {
         Some(Part::Lookback)
+    } else if word == "--schedule" {
+        Some(Part::Schedule)
     } else {
         None
     }
@@ -113,6 +117,13 @@ fn give<'a>(said: Said<'a>, part: Part, value: &'a str) -> Option<Said<'a>>
                 return None;
             }
             more.lookback = Some(value);
+            Some(more)
+        }
+        Part::Schedule => {
+            if said.schedule.is_some() {
+                return None;
+            }
+            more.schedule = Some(value);
             Some(more)
         }
     }
@@ -175,6 +186,7 @@ pub(crate) fn said_by(words: &[String]) -> Option<Said<'_>>
         number: None,
         rows: None,
         lookback: None,
+        schedule: None,
         awaits: None,
     };
     for word in words {

@@ -34,7 +34,6 @@ use Rattle.px_server.specs.Kept.{HasFailed, has_told}
 use Rattle.px_program.specs.Answers.{AnswersJob, AnswersScript, AnswersVerification, IsVerified, one_item, stopped_by}
 use Rattle.px_program.specs.Complete.{AreWholeRounds, HasEnded, IsComplete, IsOneReply, IsToldWhy, IsWholeJob, IsWholeScript, is_any}
 use Rattle.px_program.specs.Ended.{AllEnded}
-use Rattle.px_program.specs.Run.{undamaged}
 use Rattle.px_program.specs.Status.{IsQuietStatus, causes_of, comes_from, damage_of, first_damage, is_memory, is_of_disk, is_statement, items_of, place_in, place_of, place_or_else, quiet_status, refused_by, some_refused_by, status_of, whole_status}
 use Rattle.px_program.specs.declared.causes.Causes.{Causes}
 use Rattle.px_program.specs.declared.causes.Place.{Place}
@@ -43,7 +42,7 @@ use Rattle.px_program.specs.declared.job.Job.TheVariants.{Script, Verify, Load}
 use Rattle.px_program.specs.declared.status.Status.{Status}
 use Rattle.px_program.specs.declared.status.Status.TheVariants.{Done}
 use Rattle.px_verified.specs.declared.asked.Verification.{Verification}
-use Rattle.px_program.proofs.Items.{IsFair}
+use Rattle.px_program.proofs.Items.{IsFair, IsUndamaged}
 use Rattle.px_program.proofs.Verified.{fair as fair_verification}
 use Rattle.px_alone.proofs.Balanced.{IsBalanced, balanced-none, batches_ended, points_closed}
 use Rattle.px_program.proofs.Sessions.{fresh_going, or_none, rounds_balanced, rounds_told, whole_rounds}
@@ -157,12 +156,12 @@ no_entries (e ∷ es) h = absurd (omega arith)
 
 module _ (sound : Type 0) (k : Known) (script : List ℕ) (ts : List Transcript) (sink_failed memory : Bool) where
   -- a reply that tells of the disk has an entry that tells it
-  ran_told : k.damaged ≡ undamaged → RanScript sound k 0 (script_of script) ts sink_failed memory → some_refused_by is_of_disk (items_of ts) ≡ true → has_told k.seen ≡ true
+  ran_told : IsUndamaged sound k → RanScript sound k 0 (script_of script) ts sink_failed memory → some_refused_by is_of_disk (items_of ts) ≡ true → has_told k.seen ≡ true
   ran_told whole a tell =
       let r = a.ran in
-      rounds_told sound k whole 0 1 (fresh_sessions a.sessions) r.passed r.done (length k.seen) a.states memory r.answered (sym (ap (λ (l : List Transcript). some_refused_by is_of_disk (items_of l)) r.flat) ∙ tell)
+      rounds_told sound k 0 1 (fresh_sessions a.sessions) r.passed r.done (length k.seen) a.states memory r.answered whole (sym (ap (λ (l : List Transcript). some_refused_by is_of_disk (items_of l)) r.flat) ∙ tell)
 
-  script_told : k.damaged ≡ undamaged → AnswersScript sound k 0 script ts sink_failed memory → some_refused_by is_of_disk (items_of ts) ≡ true → has_told k.seen ≡ true
+  script_told : IsUndamaged sound k → AnswersScript sound k 0 script ts sink_failed memory → some_refused_by is_of_disk (items_of ts) ≡ true → has_told k.seen ≡ true
   script_told whole (inl a) tell = ran_told whole a.ran tell
   script_told whole (inr h) tell = absurd (false≢true (sym (⊎_elim
       (λ is. ap (λ (l : List Transcript). some_refused_by is_of_disk (items_of l)) is ∙ stopped_quiet h.fault (length script))
@@ -171,16 +170,16 @@ module _ (sound : Type 0) (k : Known) (script : List ℕ) (ts : List Transcript)
   all_own : (seat : ℕ) → own_since seat 0 (take (length k.seen) k.seen) ≡ outline (acts_by seat k.seen)
   all_own seat = ap (λ (l : List Entry). outline (acts_by seat l)) (take-length k.seen)
 
-  ran_balanced : k.damaged ≡ undamaged → RanScript sound k 0 (script_of script) ts sink_failed memory → has_fatal (items_of ts) ≡ false → (seat : ℕ) → IsBalanced (outline (acts_by seat k.seen))
-  ran_balanced whole a go seat =
+  ran_balanced : RanScript sound k 0 (script_of script) ts sink_failed memory → has_fatal (items_of ts) ≡ false → (seat : ℕ) → IsBalanced (outline (acts_by seat k.seen))
+  ran_balanced a go seat =
       let r = a.ran in
-      let own = rounds_balanced sound k whole 0 1 (fresh_sessions a.sessions) r.passed r.done (length k.seen) a.states memory r.answered (sym (ap (λ (l : List Transcript). has_fatal (items_of l)) r.flat) ∙ go) seat in
+      let own = rounds_balanced sound k 0 1 (fresh_sessions a.sessions) r.passed r.done (length k.seen) a.states memory r.answered (sym (ap (λ (l : List Transcript). has_fatal (items_of l)) r.flat) ∙ go) seat in
       subst IsBalanced (all_own seat) own
 
-  seats_balanced : k.damaged ≡ undamaged → AnswersScript sound k 0 script ts sink_failed memory → has_fatal (items_of ts) ≡ false → (seat : ℕ) → IsBalanced (outline (acts_by seat k.seen))
+  seats_balanced : AnswersScript sound k 0 script ts sink_failed memory → has_fatal (items_of ts) ≡ false → (seat : ℕ) → IsBalanced (outline (acts_by seat k.seen))
   unfolding acts_by
-  seats_balanced whole (inl a) go seat = ran_balanced whole a.ran go seat
-  seats_balanced whole (inr h) go seat = subst (λ (l : List Entry). IsBalanced (outline (acts_by seat l))) (sym (no_entries k.seen h.still)) balanced-none
+  seats_balanced (inl a) go seat = ran_balanced a.ran go seat
+  seats_balanced (inr h) go seat = subst (λ (l : List Entry). IsBalanced (outline (acts_by seat l))) (sym (no_entries k.seen h.still)) balanced-none
 
   -- each session came to its end
   ran_whole : RanScript sound k 0 (script_of script) ts sink_failed memory → has_fatal (items_of ts) ≡ false → sink_failed ≡ false → memory ≡ false → IsWholeScript script ts
@@ -212,22 +211,22 @@ module _ (sound : Type 0) (k : Known) (v : Verification) (ts : List Transcript) 
   not_here true h = h
   not_here false h = h
 
-  verification_fair : (h : IsVerified sound k 0 v ts) → k.damaged ≡ undamaged → IsFair (as_seat 1 k) (own_since 1 0 k.seen) h.reply
-  verification_fair h whole = fair_verification sound (as_seat 1 k) whole v 0 (own_since 1 0 k.seen) h.reply h.right
+  verification_fair : (h : IsVerified sound k 0 v ts) → IsFair sound (as_seat 1 k) (own_since 1 0 k.seen) h.reply
+  verification_fair h = fair_verification sound (as_seat 1 k) v 0 (own_since 1 0 k.seen) h.reply h.right
 
-  verification_told : k.damaged ≡ undamaged → AnswersVerification sound k 0 v ts memory → some_refused_by is_of_disk (items_of ts) ≡ true → has_told k.seen ≡ true
-  verification_told whole (inl h) tell = (verification_fair h whole).told (here (refused_by is_of_disk h.reply) (sym (ap (λ (l : List Transcript). some_refused_by is_of_disk (items_of l)) h.told) ∙ tell))
+  verification_told : IsUndamaged sound k → AnswersVerification sound k 0 v ts memory → some_refused_by is_of_disk (items_of ts) ≡ true → has_told k.seen ≡ true
+  verification_told whole (inl h) tell = (verification_fair h).told whole (here (refused_by is_of_disk h.reply) (sym (ap (λ (l : List Transcript). some_refused_by is_of_disk (items_of l)) h.told) ∙ tell))
   verification_told whole (inr h) tell = absurd (false≢true (sym (ap (λ (l : List Transcript). some_refused_by is_of_disk (items_of l)) h.none) ∙ tell))
 
-  verification_balanced : k.damaged ≡ undamaged → AnswersVerification sound k 0 v ts memory → has_fatal (items_of ts) ≡ false → (seat : ℕ) → IsBalanced (outline (acts_by seat k.seen))
+  verification_balanced : AnswersVerification sound k 0 v ts memory → has_fatal (items_of ts) ≡ false → (seat : ℕ) → IsBalanced (outline (acts_by seat k.seen))
   unfolding acts_by
-  verification_balanced whole (inl h) go seat =
+  verification_balanced (inl h) go seat =
       let quiet = not_here (is_fatal h.reply) (sym (ap (λ (l : List Transcript). has_fatal (items_of l)) h.told) ∙ go) in
       elim (seat == 1) as (λ b. (seat == 1) ≡ b → IsBalanced (outline (acts_by seat k.seen))) [
-        | true ↦ λ e. subst (λ (n : ℕ). IsBalanced (outline (acts_by n k.seen))) (sym (eqb-true seat 1 e)) ((verification_fair h whole).balanced quiet)
+        | true ↦ λ e. subst (λ (n : ℕ). IsBalanced (outline (acts_by n k.seen))) (sym (eqb-true seat 1 e)) ((verification_fair h).balanced quiet)
         | false ↦ λ e. subst IsBalanced (sym (ap outline (h.others seat (eqb-false seat 1 e)))) balanced-none
       ] refl
-  verification_balanced whole (inr h) go seat = subst (λ (l : List Entry). IsBalanced (outline (acts_by seat l))) (sym (no_entries k.seen h.still)) balanced-none
+  verification_balanced (inr h) go seat = subst (λ (l : List Entry). IsBalanced (outline (acts_by seat l))) (sym (no_entries k.seen h.still)) balanced-none
 
   verification_whole : AnswersVerification sound k 0 v ts memory → memory ≡ false → IsOneReply ts
   verification_whole (inl h) enough = (h.reply, 0, length k.seen, h.told)
@@ -236,14 +235,14 @@ module _ (sound : Type 0) (k : Known) (v : Verification) (ts : List Transcript) 
 -- ---- 5. A load
 
 module _ (sound : Type 0) (k : Known) (l : Loads) (ts : List Transcript) (memory : Bool) where
-  load_told : k.damaged ≡ undamaged → RanLoad sound k 0 l ts memory → some_refused_by is_of_disk (items_of ts) ≡ true → has_told k.seen ≡ true
+  load_told : IsUndamaged sound k → RanLoad sound k 0 l ts memory → some_refused_by is_of_disk (items_of ts) ≡ true → has_told k.seen ≡ true
   load_told whole (inl h) tell = ran_told sound k (load_text l) ts false h.lacked whole h.ran tell
   load_told whole (inr h) tell = absurd (false≢true (sym (ap (λ (l : List Transcript). some_refused_by is_of_disk (items_of l)) h.none) ∙ tell))
 
-  load_balanced : k.damaged ≡ undamaged → RanLoad sound k 0 l ts memory → has_fatal (items_of ts) ≡ false → (seat : ℕ) → IsBalanced (outline (acts_by seat k.seen))
+  load_balanced : RanLoad sound k 0 l ts memory → has_fatal (items_of ts) ≡ false → (seat : ℕ) → IsBalanced (outline (acts_by seat k.seen))
   unfolding acts_by
-  load_balanced whole (inl h) go seat = ran_balanced sound k (load_text l) ts false h.lacked whole h.ran go seat
-  load_balanced whole (inr h) go seat = subst (λ (l : List Entry). IsBalanced (outline (acts_by seat l))) (sym (no_entries k.seen h.still)) balanced-none
+  load_balanced (inl h) go seat = ran_balanced sound k (load_text l) ts false h.lacked h.ran go seat
+  load_balanced (inr h) go seat = subst (λ (l : List Entry). IsBalanced (outline (acts_by seat l))) (sym (no_entries k.seen h.still)) balanced-none
 
   not_lacked : (b : Bool) → (b ≡ true → memory ≡ true) → memory ≡ false → b ≡ false
   not_lacked true h enough = absurd (false≢true (sym enough ∙ h refl))
@@ -256,38 +255,38 @@ module _ (sound : Type 0) (k : Known) (l : Loads) (ts : List Transcript) (memory
 -- ---- 6. A job
 
 module _ (sound : Type 0) (k : Known) (ts : List Transcript) (sink_failed memory : Bool) where
-  job_told : (job : Job) → k.damaged ≡ undamaged → AnswersJob sound k 0 job ts sink_failed memory → some_refused_by is_of_disk (items_of ts) ≡ true → has_told k.seen ≡ true
-  job_told (Script script) whole a tell = script_told sound k script ts sink_failed memory whole a tell
+  job_told : (job : Job) → IsUndamaged sound k → AnswersJob sound k 0 job ts sink_failed memory → some_refused_by is_of_disk (items_of ts) ≡ true → has_told k.seen ≡ true
+  job_told (Script script schedule) whole a tell = script_told sound k script ts sink_failed memory whole a tell
   job_told (Verify v) whole a tell = verification_told sound k v ts memory whole a tell
   job_told (Load l) whole a tell = load_told sound k l ts memory whole a tell
 
-  job_balanced : (job : Job) → k.damaged ≡ undamaged → AnswersJob sound k 0 job ts sink_failed memory → has_fatal (items_of ts) ≡ false → (seat : ℕ) → IsBalanced (outline (acts_by seat k.seen))
-  job_balanced (Script script) whole a go seat = seats_balanced sound k script ts sink_failed memory whole a go seat
-  job_balanced (Verify v) whole a go seat = verification_balanced sound k v ts memory whole a go seat
-  job_balanced (Load l) whole a go seat = load_balanced sound k l ts memory whole a go seat
+  job_balanced : (job : Job) → AnswersJob sound k 0 job ts sink_failed memory → has_fatal (items_of ts) ≡ false → (seat : ℕ) → IsBalanced (outline (acts_by seat k.seen))
+  job_balanced (Script script schedule) a go seat = seats_balanced sound k script ts sink_failed memory a go seat
+  job_balanced (Verify v) a go seat = verification_balanced sound k v ts memory a go seat
+  job_balanced (Load l) a go seat = load_balanced sound k l ts memory a go seat
 
   job_whole : (job : Job) → AnswersJob sound k 0 job ts sink_failed memory → has_fatal (items_of ts) ≡ false → sink_failed ≡ false → memory ≡ false → HasEnded job ts
-  job_whole (Script script) a go sent enough = script_whole sound k script ts sink_failed memory a go sent enough
+  job_whole (Script script schedule) a go sent enough = script_whole sound k script ts sink_failed memory a go sent enough
   job_whole (Verify v) a go sent enough = verification_whole sound k v ts memory a enough
   job_whole (Load l) a go sent enough = load_whole sound k l ts memory a go enough
 
   -- of a job of which nothing is refused all was done
   all_done : (job : Job) → HasEnded job ts → some_refused_by is_any (items_of ts) ≡ false → IsWholeJob job ts
-  all_done (Script script) (inl w) none = w
-  all_done (Script script) (inr why) none = absurd (false≢true (sym none ∙ ap (λ (l : List Transcript). some_refused_by is_any (items_of l)) why.2))
+  all_done (Script script schedule) (inl w) none = w
+  all_done (Script script schedule) (inr why) none = absurd (false≢true (sym none ∙ ap (λ (l : List Transcript). some_refused_by is_any (items_of l)) why.2))
   all_done (Verify v) w none = w
   all_done (Load l) w none = w
 
 module _ (sound : Type 0) (k : Known) (job : Job) (ts : List Transcript) (sink_failed memory : Bool) where
   -- where no session is stopped, nothing is left under way
-  pub job_ended : k.damaged ≡ undamaged → AnswersJob sound k 0 job ts sink_failed memory → has_fatal (items_of ts) ≡ false → AllEnded k.seen
-  job_ended whole h go =
-      let balanced = job_balanced sound k ts sink_failed memory job whole h go in
+  pub job_ended : AnswersJob sound k 0 job ts sink_failed memory → has_fatal (items_of ts) ≡ false → AllEnded k.seen
+  job_ended h go =
+      let balanced = job_balanced sound k ts sink_failed memory job h go in
       record { batches = batches_ended k.seen balanced; points = points_closed k.seen balanced }
 
   -- ---- 7. The run
 
-  module _ {D O : Type 0} (d : DiskGhosts D) (s : SinkGhosts O) (disk : D) (out out' : O) (text : List ℕ) (status : Status) (whole : k.damaged ≡ undamaged) (answers : AnswersJob sound k 0 job ts sink_failed memory) (written : IsTextWritten s out out' text sink_failed memory)
+  module _ {D O : Type 0} (d : DiskGhosts D) (s : SinkGhosts O) (disk : D) (out out' : O) (text : List ℕ) (status : Status) (whole : IsUndamaged sound k) (answers : AnswersJob sound k 0 job ts sink_failed memory) (written : IsTextWritten s out out' text sink_failed memory)
       (is : status ≡ status_of sink_failed (d.first_fault disk) memory (causes_of (items_of ts))) (blamed : has_told k.seen ≡ true → HasFailed d disk) (first : 0 < d.faults disk → 0 < d.first_fault disk) (some : 0 < d.first_fault disk → 0 < d.faults disk) where
     untold : (HasFailed d disk → ⊥) → some_refused_by is_of_disk (items_of ts) ≡ false
     untold fine = ⊎_elim (λ tell. absurd (fine (blamed (job_told sound k ts sink_failed memory job whole answers tell)))) (λ none. none) (cases_Bool (some_refused_by is_of_disk (items_of ts)))

@@ -197,42 +197,50 @@ made_balanced k t (cs ∷ parts) (r ∷ rs) acts m =
 
 -- ---- 4. One item
 
--- a reply that tells of the disk has an entry that tells it; and one that doesn't stop its session leaves nothing under way
-pub record IsFair (k : Known) (own : List Act) (r : Reply) : Type 0 where
-  pub told : refused_by is_of_disk r ≡ true → has_told k.seen ≡ true
+-- no place is found damaged
+abbrev pub IsUndamaged : Type 0 → Known → Type 0
+IsUndamaged sound k = (file place : ℕ) → IsDamagedAt sound k file place → ⊥
+
+-- where no place is found damaged, a reply that tells of the disk has an entry that tells it; and one that doesn't stop its session leaves nothing under way
+pub record IsFair (sound : Type 0) (k : Known) (own : List Act) (r : Reply) : Type 0 where
+  pub told : IsUndamaged sound k → refused_by is_of_disk r ≡ true → has_told k.seen ≡ true
   pub balanced : is_fatal r ≡ false → IsBalanced own
 
--- no place is damaged
-pub undamaged_at : (k : Known) → k.damaged ≡ undamaged → (file place : ℕ) → IsDamagedAt k file place → ⊥
-undamaged_at k whole file place h = false≢true (sym (ap (λ (f : ℕ → ℕ → Bool). f file place) whole) ∙ h)
+-- so it is where none is damaged
+pub undamaged_at : (sound : Type 0) (k : Known) → k.damaged ≡ undamaged → IsUndamaged sound k
+undamaged_at sound k whole file place h = false≢true (sym (ap (λ (f : ℕ → ℕ → Bool). f file place) whole) ∙ h.0)
+
+-- and so it was earlier
+pub undamaged_before : (sound : Type 0) (was k : Known) → k.damaged ≡ was.damaged → IsUndamaged sound k → IsUndamaged sound was
+undamaged_before sound was k same whole file place h = whole file place (ap (λ (f : ℕ → ℕ → Bool). f file place) same ∙ h.0, h.1)
 
 -- a definition that was refused for the disk's sake has an entry that tells it
-defining_told : (k : Known) → k.damaged ≡ undamaged → (x : Definition) (y : Statement) (f : DefineFault) → define.DefinitionFaultIs x f k → refused_by is_of_disk (undefined y f) ≡ true → has_told k.seen ≡ true
-defining_told k whole x y undone.ReadFault is tell = told_by k.seat (Missed is.0) k.seen refl is.1
-defining_told k whole x y undone.WriteFault is tell = told_by k.seat (Shut is.0) k.seen refl is.1
-defining_told k whole x y (undone.Damaged file place) is tell = absurd (undamaged_at k whole file place is)
-defining_told k whole x y (undone.Closed call) is tell = closed_by call k.seen is
-defining_told k whole x y undone.NameExists is tell = absurd (false≢true (sym (name_quiet y) ∙ tell))
-defining_told k whole x y undone.NoTable is tell = absurd (false≢true (sym (absent_quiet y) ∙ tell))
-defining_told k whole x y undone.NoIndex is tell = absurd (false≢true (sym (index_quiet y) ∙ tell))
-defining_told k whole x y f is tell = absurd (false≢true tell)
+defining_told : (sound : Type 0) (k : Known) (x : Definition) (y : Statement) (f : DefineFault) → define.DefinitionFaultIs sound x f k → IsUndamaged sound k → refused_by is_of_disk (undefined y f) ≡ true → has_told k.seen ≡ true
+defining_told sound k x y undone.ReadFault is whole tell = told_by k.seat (Missed is.0) k.seen refl is.1
+defining_told sound k x y undone.WriteFault is whole tell = told_by k.seat (Shut is.0) k.seen refl is.1
+defining_told sound k x y (undone.Damaged file place) is whole tell = absurd (whole file place is)
+defining_told sound k x y (undone.Closed call) is whole tell = closed_by call k.seen is
+defining_told sound k x y undone.NameExists is whole tell = absurd (false≢true (sym (name_quiet y) ∙ tell))
+defining_told sound k x y undone.NoTable is whole tell = absurd (false≢true (sym (absent_quiet y) ∙ tell))
+defining_told sound k x y undone.NoIndex is whole tell = absurd (false≢true (sym (index_quiet y) ∙ tell))
+defining_told sound k x y f is whole tell = absurd (false≢true tell)
 
 -- so has a build
-building_told : (sound : Type 0) (k : Known) → k.damaged ≡ undamaged → (t i : ℕ) (y : Statement) (f : BuildFault) → building.BuildFaultIs sound t i f k → refused_by is_of_disk (not_built y f) ≡ true → has_told k.seen ≡ true
-building_told sound k whole t i y unbuilt.ReadFault is tell = told_by k.seat (Missed is.0) k.seen refl is.1
-building_told sound k whole t i y unbuilt.WriteFault is tell = told_by k.seat (Shut is.0) k.seen refl is.1
-building_told sound k whole t i y (unbuilt.Damaged file place) is tell = absurd (undamaged_at k whole file place is)
-building_told sound k whole t i y (unbuilt.Closed call) is tell = closed_by call k.seen is
-building_told sound k whole t i y unbuilt.NoTable is tell = absurd (false≢true (sym (absent_quiet y) ∙ tell))
-building_told sound k whole t i y unbuilt.NoIndex is tell = absurd (false≢true (sym (index_quiet y) ∙ tell))
-building_told sound k whole t i y (unbuilt.Limit which count) is tell = absurd (false≢true tell)
-building_told sound k whole t i y (unbuilt.BelowHorizon h) is tell = absurd (false≢true tell)
-building_told sound k whole t i y unbuilt.Memory is tell = absurd (false≢true tell)
+building_told : (sound : Type 0) (k : Known) (t i : ℕ) (y : Statement) (f : BuildFault) → building.BuildFaultIs sound t i f k → IsUndamaged sound k → refused_by is_of_disk (not_built y f) ≡ true → has_told k.seen ≡ true
+building_told sound k t i y unbuilt.ReadFault is whole tell = told_by k.seat (Missed is.0) k.seen refl is.1
+building_told sound k t i y unbuilt.WriteFault is whole tell = told_by k.seat (Shut is.0) k.seen refl is.1
+building_told sound k t i y (unbuilt.Damaged file place) is whole tell = absurd (whole file place is)
+building_told sound k t i y (unbuilt.Closed call) is whole tell = closed_by call k.seen is
+building_told sound k t i y unbuilt.NoTable is whole tell = absurd (false≢true (sym (absent_quiet y) ∙ tell))
+building_told sound k t i y unbuilt.NoIndex is whole tell = absurd (false≢true (sym (index_quiet y) ∙ tell))
+building_told sound k t i y (unbuilt.Limit which count) is whole tell = absurd (false≢true tell)
+building_told sound k t i y (unbuilt.BelowHorizon h) is whole tell = absurd (false≢true tell)
+building_told sound k t i y unbuilt.Memory is whole tell = absurd (false≢true tell)
 
 -- also one that was refused earlier
-refused_told : (sound : Type 0) (k : Known) → k.damaged ≡ undamaged → (n t i : ℕ) (y : Statement) (f : BuildFault) → building.WasRefused sound n t i f k → refused_by is_of_disk (not_built y f) ≡ true → has_told k.seen ≡ true
-refused_told sound k whole n t i y f w tell =
-    subst (λ (es : List Entry). has_told es ≡ true) (sym w.past.seen) (told_more w.was.seen w.past.more (building_told sound w.was (sym w.past.damaged ∙ whole) t i y f w.cause tell))
+refused_told : (sound : Type 0) (k : Known) (n t i : ℕ) (y : Statement) (f : BuildFault) → building.WasRefused sound n t i f k → IsUndamaged sound k → refused_by is_of_disk (not_built y f) ≡ true → has_told k.seen ≡ true
+refused_told sound k n t i y f w whole tell =
+    subst (λ (es : List Entry). has_told es ≡ true) (sym w.past.seen) (told_more w.was.seen w.past.more (building_told sound w.was t i y f w.cause (undamaged_before sound w.was k w.past.damaged whole) tell))
 
 -- what a build did is balanced
 pub tries_balanced : (t : TableId) (i : IndexId) (last own : List Act) → building.TriesThen t i last own → IsBalanced last → IsBalanced own
@@ -246,36 +254,33 @@ tried_balanced t i own (inr h) = tries_balanced t i _ own h.1 (balanced-state t 
 behind_balanced : (n : ℕ) (e : Definition) (m : Made) (own rest : List Act) (k : Known) → IsBuiltBehind n e m own rest k → IsBalanced rest → IsBalanced own
 behind_balanced n e m own rest k h b = subst IsBalanced (sym h.one) (balanced-append (act_of e m ∷ []) rest (balanced-definition e m) b)
 
-module _ (sound : Type 0) (k : Known) (whole : k.damaged ≡ undamaged) where
+module _ (sound : Type 0) (k : Known) where
   Told : Reply → Type 0
-  Told r = refused_by is_of_disk r ≡ true → has_told k.seen ≡ true
-
-  no_damage : (file place : ℕ) → IsDamagedAt k file place → ⊥
-  no_damage = undamaged_at k whole
+  Told r = IsUndamaged sound k → refused_by is_of_disk r ≡ true → has_told k.seen ≡ true
 
   not_told : (r : Reply) → refused_by is_of_disk r ≡ false → Told r
   unfolding Told
-  not_told r quiet tell = absurd (false≢true (sym quiet ∙ tell))
+  not_told r quiet whole tell = absurd (false≢true (sym quiet ∙ tell))
 
   batch_told : (name : List ℕ) (t : TableId) (cs : List Change) (f : BatchFault) → batch.BatchFaultIs sound t cs f k → Told (reply.Refused (batch_refusal name f))
   unfolding Told
-  batch_told name t cs unmade.ReadFault is tell = told_by k.seat (Missed is.0) k.seen refl is.1
-  batch_told name t cs unmade.WriteFault is tell = told_by k.seat (Shut is.0) k.seen refl is.1
-  batch_told name t cs (unmade.Damaged file place) is tell = absurd (no_damage file place is)
-  batch_told name t cs (unmade.Closed call) is tell = closed_by call k.seen is
-  batch_told name t cs f is tell = absurd (false≢true tell)
+  batch_told name t cs unmade.ReadFault is whole tell = told_by k.seat (Missed is.0) k.seen refl is.1
+  batch_told name t cs unmade.WriteFault is whole tell = told_by k.seat (Shut is.0) k.seen refl is.1
+  batch_told name t cs (unmade.Damaged file place) is whole tell = absurd (whole file place is)
+  batch_told name t cs (unmade.Closed call) is whole tell = closed_by call k.seen is
+  batch_told name t cs f is whole tell = absurd (false≢true tell)
 
-  define_told : (x : Definition) (y : Statement) (f : DefineFault) → define.DefinitionFaultIs x f k → Told (undefined y f)
+  define_told : (x : Definition) (y : Statement) (f : DefineFault) → define.DefinitionFaultIs sound x f k → Told (undefined y f)
   unfolding Told
-  define_told = defining_told k whole
+  define_told = defining_told sound k
 
-  query_told : (name : List ℕ) (q : Query) (scn : Option ℕ) (f : QueryFault) → QueryFaultIs q scn f k → Told (reply.Refused (query_refusal name f))
+  query_told : (name : List ℕ) (q : Query) (scn : Option ℕ) (f : QueryFault) → QueryFaultIs sound q scn f k → Told (reply.Refused (query_refusal name f))
   unfolding Told
-  query_told name q scn unread.ReadFault is tell = told_by k.seat (Missed is.0) k.seen refl is.1
-  query_told name q scn unread.WriteFault is tell = told_by k.seat (Shut is.0) k.seen refl is.1
-  query_told name q scn (unread.Damaged file place) is tell = absurd (no_damage file place is)
-  query_told name q scn (unread.Closed call) is tell = closed_by call k.seen is
-  query_told name q scn f is tell = absurd (false≢true tell)
+  query_told name q scn unread.ReadFault is whole tell = told_by k.seat (Missed is.0) k.seen refl is.1
+  query_told name q scn unread.WriteFault is whole tell = told_by k.seat (Shut is.0) k.seen refl is.1
+  query_told name q scn (unread.Damaged file place) is whole tell = absurd (whole file place is)
+  query_told name q scn (unread.Closed call) is whole tell = closed_by call k.seen is
+  query_told name q scn f is whole tell = absurd (false≢true tell)
 
   -- a batch that was stopped under way was told by a reply that stops the session
   batch_balanced : (name : List ℕ) (t : TableId) (cs : List Change) (f : BatchFault) (own : List Act) → batch.HasLeft t cs f own k → is_fatal (reply.Refused (batch_refusal name f)) ≡ false → IsBalanced own
@@ -292,22 +297,22 @@ module _ (sound : Type 0) (k : Known) (whole : k.damaged ≡ undamaged) where
   query_balanced q own (inr both) = subst IsBalanced (sym both.2) (balanced-point (queried_table q) both.0 both.1)
 
   -- nothing was done for it
-  idle : (own : List Act) (a r : Reply) → own ≡ [] → a ≡ r → Told r → IsFair k own a
+  idle : (own : List Act) (a r : Reply) → own ≡ [] → a ≡ r → Told r → IsFair sound k own a
   unfolding Told
-  idle own a r none says told = record { told = λ tell. told (sym (ap (refused_by is_of_disk) says) ∙ tell); balanced = λ go. subst IsBalanced (sym none) balanced-none }
+  idle own a r none says told = record { told = λ whole tell. told whole (sym (ap (refused_by is_of_disk) says) ∙ tell); balanced = λ go. subst IsBalanced (sym none) balanced-none }
 
   -- this was done for it, and the reply doesn't tell of the disk
-  did : (own acts : List Act) (a r : Reply) → own ≡ acts → IsBalanced acts → a ≡ r → refused_by is_of_disk r ≡ false → IsFair k own a
-  did own acts a r is balanced says quiet = record { told = λ tell. absurd (false≢true (sym (ap (refused_by is_of_disk) says ∙ quiet) ∙ tell)); balanced = λ go. subst IsBalanced (sym is) balanced }
+  did : (own acts : List Act) (a r : Reply) → own ≡ acts → IsBalanced acts → a ≡ r → refused_by is_of_disk r ≡ false → IsFair sound k own a
+  did own acts a r is balanced says quiet = record { told = λ whole tell. absurd (false≢true (sym (ap (refused_by is_of_disk) says ∙ quiet) ∙ tell)); balanced = λ go. subst IsBalanced (sym is) balanced }
 
-  still : (own : List Act) (a r : Reply) → own ≡ [] → a ≡ r → refused_by is_of_disk r ≡ false → IsFair k own a
+  still : (own : List Act) (a r : Reply) → own ≡ [] → a ≡ r → refused_by is_of_disk r ≡ false → IsFair sound k own a
   still own a r none says quiet = did own [] a r none balanced-none says quiet
 
   -- a SELECT that was refused
-  not_selected : (name : List ℕ) (q : Query) (scn : Option ℕ) (f : QueryFault) (own : List Act) (a : Reply) → QueryFaultIs q scn f k → ((own ≡ []) ⊎ OpensAndCloses q own) → (a ≡ reply.Refused (query_refusal name f)) ⊎ (a ≡ reply.Refused refusal.Memory) → IsFair k own a
+  not_selected : (name : List ℕ) (q : Query) (scn : Option ℕ) (f : QueryFault) (own : List Act) (a : Reply) → QueryFaultIs sound q scn f k → ((own ≡ []) ⊎ OpensAndCloses q own) → (a ≡ reply.Refused (query_refusal name f)) ⊎ (a ≡ reply.Refused refusal.Memory) → IsFair sound k own a
   unfolding Told
-  not_selected name q scn f own a is left (inl says) = record { told = λ tell. query_told name q scn f is (sym (ap (refused_by is_of_disk) says) ∙ tell); balanced = λ go. query_balanced q own left }
-  not_selected name q scn f own a is left (inr says) = record { told = λ tell. absurd (false≢true (sym (ap (refused_by is_of_disk) says) ∙ tell)); balanced = λ go. query_balanced q own left }
+  not_selected name q scn f own a is left (inl says) = record { told = λ whole tell. query_told name q scn f is whole (sym (ap (refused_by is_of_disk) says) ∙ tell); balanced = λ go. query_balanced q own left }
+  not_selected name q scn f own a is left (inr says) = record { told = λ whole tell. absurd (false≢true (sym (ap (refused_by is_of_disk) says) ∙ tell)); balanced = λ go. query_balanced q own left }
 
   -- a DELETE that was stopped at one of its batches
   stopped_balanced : (name : List ℕ) (p : Planned) (own : List Act) (rs : List Receipt) (f : BatchFault) → deleting.HasStopped sound p own k rs f → is_fatal (reply.Refused (batch_refusal name f)) ≡ false → IsBalanced own
@@ -317,74 +322,74 @@ module _ (sound : Type 0) (k : Known) (whole : k.damaged ≡ undamaged) where
       let stopped = batch_balanced name p.table.id (take 1000 h.rest) f h.stopping h.outcome.1 go in
       subst IsBalanced (sym h.own_is) (balanced-append h.finding (h.making ++ h.stopping) found (balanced-append h.making h.stopping made stopped))
 
-  not_deleted : (name : List ℕ) (p : Planned) (own : List Act) (rs : List Receipt) (f : BatchFault) (a : Reply) → deleting.HasStopped sound p own k rs f → right.StopsDelete a name f → IsFair k own a
+  not_deleted : (name : List ℕ) (p : Planned) (own : List Act) (rs : List Receipt) (f : BatchFault) (a : Reply) → deleting.HasStopped sound p own k rs f → right.StopsDelete a name f → IsFair sound k own a
   unfolding Told
   not_deleted name p own rs f a h (inl says) = record {
-    told = λ tell. batch_told name p.table.id (take 1000 h.rest) f h.outcome.0 (sym (ap (refused_by is_of_disk) says) ∙ tell);
+    told = λ whole tell. batch_told name p.table.id (take 1000 h.rest) f h.outcome.0 whole (sym (ap (refused_by is_of_disk) says) ∙ tell);
     balanced = λ go. stopped_balanced name p own rs f h (sym (ap is_fatal says) ∙ go);
   }
   not_deleted name p own rs f a h (inr lacks) = record {
-    told = λ tell. absurd (false≢true (sym (ap (refused_by is_of_disk) lacks.0) ∙ tell));
+    told = λ whole tell. absurd (false≢true (sym (ap (refused_by is_of_disk) lacks.0) ∙ tell));
     balanced = λ go. stopped_balanced name p own rs f h (ap (λ (g : BatchFault). is_fatal (reply.Refused (batch_refusal name g))) lacks.1);
   }
 
   -- an index that wasn't built
-  not_active : (x : Statement) (n : ℕ) (t : TableId) (i : IndexId) (own rest : List Act) (f : BuildFault) (a : Reply) → IsBalanced own → building.IsBuildOutcome sound n t i rest k (Err f) → (a ≡ not_built x f) ⊎ (a ≡ reply.Refused refusal.Memory) → IsFair k own a
+  not_active : (x : Statement) (n : ℕ) (t : TableId) (i : IndexId) (own rest : List Act) (f : BuildFault) (a : Reply) → IsBalanced own → building.IsBuildOutcome sound n t i rest k (Err f) → (a ≡ not_built x f) ⊎ (a ≡ reply.Refused refusal.Memory) → IsFair sound k own a
   unfolding Told
-  not_active x n t i own rest f a balanced o (inl says) = record { told = λ tell. refused_told sound k whole n t.0 i.0 x f o.0 (sym (ap (refused_by is_of_disk) says) ∙ tell); balanced = λ go. balanced }
-  not_active x n t i own rest f a balanced o (inr says) = record { told = λ tell. absurd (false≢true (sym (ap (refused_by is_of_disk) says) ∙ tell)); balanced = λ go. balanced }
+  not_active x n t i own rest f a balanced o (inl says) = record { told = λ whole tell. refused_told sound k n t.0 i.0 x f o.0 whole (sym (ap (refused_by is_of_disk) says) ∙ tell); balanced = λ go. balanced }
+  not_active x n t i own rest f a balanced o (inr says) = record { told = λ whole tell. absurd (false≢true (sym (ap (refused_by is_of_disk) says) ∙ tell)); balanced = λ go. balanced }
 
   -- a commit that was refused
   commit_told : (name : List ℕ) (h : HeldData) (f : BatchFault) → commits.CommitFaultIs sound h f k → Told (reply.Refused (batch_refusal name f))
   unfolding Told
-  commit_told name h unmade.NoTable is tell = absurd (false≢true tell)
-  commit_told name h (unmade.Limit which count) is tell = absurd (false≢true tell)
-  commit_told name h unmade.ReadFault is tell = told_by k.seat (Missed is.0) k.seen refl is.1
-  commit_told name h unmade.WriteFault is tell = told_by k.seat (Shut is.0) k.seen refl is.1
-  commit_told name h (unmade.Damaged file place) is tell = absurd (no_damage file place is)
-  commit_told name h (unmade.Closed call) is tell = closed_by call k.seen is
-  commit_told name h unmade.Memory is tell = absurd (false≢true tell)
+  commit_told name h unmade.NoTable is whole tell = absurd (false≢true tell)
+  commit_told name h (unmade.Limit which count) is whole tell = absurd (false≢true tell)
+  commit_told name h unmade.ReadFault is whole tell = told_by k.seat (Missed is.0) k.seen refl is.1
+  commit_told name h unmade.WriteFault is whole tell = told_by k.seat (Shut is.0) k.seen refl is.1
+  commit_told name h (unmade.Damaged file place) is whole tell = absurd (whole file place is)
+  commit_told name h (unmade.Closed call) is whole tell = closed_by call k.seen is
+  commit_told name h unmade.Memory is whole tell = absurd (false≢true tell)
 
-  not_committed : (h : HeldData) (f : BatchFault) (own : List Act) (a : Reply) → commits.IsCommitOutcome sound h own k (Err f) → right.StopsDelete a h.name f → IsFair k own a
+  not_committed : (h : HeldData) (f : BatchFault) (own : List Act) (a : Reply) → commits.IsCommitOutcome sound h own k (Err f) → right.StopsDelete a h.name f → IsFair sound k own a
   unfolding Told
   not_committed h f own a o (inl says) = record {
-    told = λ tell. commit_told h.name h f o.0 (sym (ap (refused_by is_of_disk) says) ∙ tell);
+    told = λ whole tell. commit_told h.name h f o.0 whole (sym (ap (refused_by is_of_disk) says) ∙ tell);
     balanced = λ go. batch_balanced h.name h.table h.changes f own o.1 (sym (ap is_fatal says) ∙ go);
   }
   not_committed h f own a o (inr lacks) = record {
-    told = λ tell. absurd (false≢true (sym (ap (refused_by is_of_disk) lacks.0) ∙ tell));
+    told = λ whole tell. absurd (false≢true (sym (ap (refused_by is_of_disk) lacks.0) ∙ tell));
     balanced = λ go. batch_balanced h.name h.table h.changes f own o.1 (ap (λ (g : BatchFault). is_fatal (reply.Refused (batch_refusal h.name g))) lacks.1);
   }
 
   -- a table that wasn't counted
-  count_told : (n : ℕ) (name : List ℕ) (f : CountFault) → counts.CountFaultIs n name f k → Told (reply.Refused (right.count_refusal name f))
+  count_told : (n : ℕ) (name : List ℕ) (f : CountFault) → counts.CountFaultIs sound n name f k → Told (reply.Refused (right.count_refusal name f))
   unfolding Told
-  count_told n name uncounted.NoTable is tell = absurd (false≢true tell)
-  count_told n name uncounted.ReadFault is tell = told_by k.seat (Missed is.0) k.seen refl is.1
-  count_told n name (uncounted.Damaged file place) is tell = absurd (no_damage file place is)
-  count_told n name (uncounted.Closed call) is tell = closed_by call k.seen is
-  count_told n name uncounted.Memory is tell = absurd (false≢true tell)
+  count_told n name uncounted.NoTable is whole tell = absurd (false≢true tell)
+  count_told n name uncounted.ReadFault is whole tell = told_by k.seat (Missed is.0) k.seen refl is.1
+  count_told n name (uncounted.Damaged file place) is whole tell = absurd (whole file place is)
+  count_told n name (uncounted.Closed call) is whole tell = closed_by call k.seen is
+  count_told n name uncounted.Memory is whole tell = absurd (false≢true tell)
 
-  not_counted : (n : ℕ) (name : List ℕ) (f : CountFault) (own : List Act) (a : Reply) → counts.CountFaultIs n name f k → own ≡ [] → (a ≡ reply.Refused (right.count_refusal name f)) ⊎ (a ≡ reply.Refused refusal.Memory) → IsFair k own a
+  not_counted : (n : ℕ) (name : List ℕ) (f : CountFault) (own : List Act) (a : Reply) → counts.CountFaultIs sound n name f k → own ≡ [] → (a ≡ reply.Refused (right.count_refusal name f)) ⊎ (a ≡ reply.Refused refusal.Memory) → IsFair sound k own a
   unfolding Told
   not_counted n name f own a is none (inl says) = idle own a (reply.Refused (right.count_refusal name f)) none says (count_told n name f is)
   not_counted n name f own a is none (inr says) = still own a (reply.Refused refusal.Memory) none says refl
 
   -- an order that isn't done
-  order_told : (f : OrderFault) → orders.OrderFaultIs f k → Told (reply.Refused (right.order_refusal f))
+  order_told : (f : OrderFault) → orders.OrderFaultIs sound f k → Told (reply.Refused (right.order_refusal f))
   unfolding Told
-  order_told undone_by.ReadFault is tell = told_by k.seat (Missed is.0) k.seen refl is.1
-  order_told undone_by.WriteFault is tell = told_by k.seat (Shut is.0) k.seen refl is.1
-  order_told (undone_by.Damaged file place) is tell = absurd (no_damage file place is)
-  order_told (undone_by.Closed call) is tell = closed_by call k.seen is
-  order_told undone_by.Memory is tell = absurd (false≢true tell)
+  order_told undone_by.ReadFault is whole tell = told_by k.seat (Missed is.0) k.seen refl is.1
+  order_told undone_by.WriteFault is whole tell = told_by k.seat (Shut is.0) k.seen refl is.1
+  order_told (undone_by.Damaged file place) is whole tell = absurd (whole file place is)
+  order_told (undone_by.Closed call) is whole tell = closed_by call k.seen is
+  order_told undone_by.Memory is whole tell = absurd (false≢true tell)
 
   -- each form of answer
-  pub fair : (before : ℕ) (own : List Act) (st : Settings) (p : SeenPiece) (a : Answered) → IsRight sound k before own st p a → IsFair k own a.reply
+  pub fair : (before : ℕ) (own : List Act) (st : Settings) (p : SeenPiece) (a : Answered) → IsRight sound k before own st p a → IsFair sound k own a.reply
   unfolding Told
   fair before own st p a (right.is_at_once once none) = still own a.reply a.reply none refl (at_once_quiet st p a once)
   fair before own st p a (right.is_unfound x read may lacking says none) = still own a.reply (table_absent x) none says.0 (absent_quiet x)
-  fair before own st p a (right.is_closed x call read closed says none) = idle own a.reply (reply.Refused (refusal.Closed call)) none says.0 (λ tell. closed_by call k.seen closed)
+  fair before own st p a (right.is_closed x call read closed says none) = idle own a.reply (reply.Refused (refusal.Closed call)) none says.0 (λ whole tell. closed_by call k.seen closed)
   fair before own st p a (right.is_wrong x f fault read may bound first says none) = still own a.reply (reply.Refused (bind_refusal fault)) none says.0 (bind_quiet fault)
   fair before own st p a (right.is_held u f st' read scn off bound fits holding says none) = still own a.reply (reply.Count 1 Held) none says.0 refl
   fair before own st p a (right.is_full u f read scn off bound fits full says none) = still own a.reply (reply.Refused (refusal.Limit Rows)) none says.0 refl
@@ -396,7 +401,7 @@ module _ (sound : Type 0) (k : Known) (whole : k.damaged ≡ undamaged) where
   fair before own st p a (right.is_not_ordered job fault read is since says none) = idle own a.reply (reply.Refused (right.order_refusal fault)) none says.0 (order_told fault is)
   fair before own st p a (right.is_changed u f r read scn on bound fits ended says) = did own _ a.reply (reply.Count 1 Affected) ended.one (balanced-batch f.table.id r.stamp (one_change f u)) says.0 refl
   fair before own st p a (right.is_not_changed u f fault read scn on bound fits is since left says) = record {
-    told = λ tell. batch_told u.table f.table.id (one_change f u) fault is (sym (ap (refused_by is_of_disk) says.0) ∙ tell);
+    told = λ whole tell. batch_told u.table f.table.id (one_change f u) fault is whole (sym (ap (refused_by is_of_disk) says.0) ∙ tell);
     balanced = λ go. batch_balanced u.table f.table.id (one_change f u) fault own left (sym (ap is_fatal says.0) ∙ go);
   }
   fair before own st p a (right.is_defined x f m e read scn bound fits is none made says) = did own _ a.reply (reply.Defined (definition_word x)) made.one (balanced-definition e m) says.0 refl

@@ -45,7 +45,6 @@ use Rattle.px_rounds.proofs.Lists.{get_lt, get_some, some_same}
 use Rattle.px_load.specs.Script.{load_text}
 use Rattle.px_program.specs.Answers.{AnswersJob, stopped_by}
 use Rattle.px_program.specs.OneSession.{ArePiecesOf, AreToldTo, FoldsJob, HasRunAll, IsFoldOf, NamesOnly, printed_to}
-use Rattle.px_program.specs.Run.{undamaged}
 use Rattle.px_program.specs.Status.{causes_of, items_of, quiet_status, status_of, whole_status}
 use Rattle.px_program.specs.declared.causes.Causes.{Causes}
 use Rattle.px_program.specs.declared.causes.Place.{Place}
@@ -169,7 +168,7 @@ record IsRoundOf (k : Known) (n from to : ℕ) (states' : List SessionState) (ro
   folded : IsFolded k.base k.seen from to (record { settings = st; left = pieces_from 0 sections }) items (record { settings = behind; left = [] })
   done : AllDone (take to k.seen)
 
-module _ (sound : Type 0) (k : Known) (whole : k.damaged ≡ undamaged) (legal : IsLegal k.base k.seen)
+module _ (sound : Type 0) (k : Known) (legal : IsLegal k.base k.seen)
     (law : (j : Known) (a b : ℕ) (at to : Standing) (items : List Item) → ActsAlone j a b → AreQuiet items → AreReplied sound j a at items b to → IsFolded j.base j.seen a b at items to) where
   module _ (n from to number : ℕ) (states : List SessionState) (round : List SessionText) (ts : List Transcript) (states' : List SessionState) (memory : Bool) (h : HasRound sound k from to number states round ts states' memory) (only : All (λ x. x.session ≡ n) round) (st : Settings) (done : AllDone (take from k.seen)) (own : AreQuiet (items_of ts)) where
     other : (j : ℕ) (t : Transcript) → j + 1 ≢ n → slice_get ts j ≡ Some t → IsUntold (as_seat (j + 1) k) from to t
@@ -192,7 +191,7 @@ module _ (sound : Type 0) (k : Known) (whole : k.damaged ≡ undamaged) (legal :
     done_then : AllDone (take to k.seen)
     done_then =
         subst AllDone (sym (joined from to k.seen h.forward))
-        (ended-after (take from k.seen) (entries_between from to k.seen) done (λ seat. round_balanced sound k whole from to number states round ts states' memory h (quiet_not_fatal (items_of ts) own) seat))
+        (ended-after (take from k.seen) (entries_between from to k.seen) done (λ seat. round_balanced sound k from to number states round ts states' memory h (quiet_not_fatal (items_of ts) own) seat))
 
     -- the session isn't among them: nothing is told
     absent : length states < n → All (λ x. x.session ≤ length states) round → IsRoundOf k n from to states' round ts st
@@ -302,7 +301,7 @@ module _ (sound : Type 0) (k : Known) (whole : k.damaged ≡ undamaged) (legal :
       let low : All (λ x. x.session ≤ length states) r = subst (λ (m : ℕ). All (λ x. x.session ≤ m) r) (sym count) (All-head Within r rs within) in
       let one = a_round n from mid number states r ts h.1 memory h.2 (All-head Only r rs only) st done both.0 some low stands enough in
       let more = all_rounds n most mid (number + 1) h.1 rs tss to states' memory one.behind some enough (h.2.count' ∙ count) h.3 (All-tail Only r rs only) (All-tail Within r rs within) one.stands one.done both.1 in
-      let up : mid ≤ to = rounds_forward sound k whole mid (number + 1) h.1 rs tss to states' memory h.3 in
+      let up : mid ≤ to = rounds_forward sound k mid (number + 1) h.1 rs tss to states' memory h.3 in
       let parts : entries_between from to k.seen ≡ entries_between from mid k.seen ++ entries_between mid to k.seen = parted from mid to k.seen h.2.forward up h.2.within in
       let first : List AloneEvent = one.folded.events in
       let rest : List AloneEvent = flat_map (λ e. e) more.events in
@@ -369,8 +368,8 @@ module _ (sound : Type 0) (k : Known) (whole : k.damaged ≡ undamaged) (legal :
     not_lacked false h = refl
 
     job_folds : (job : Job) → AnswersJob sound k 0 job ts sink_failed memory → FoldsJob k.base k.seen job ts
-    job_folds (Script script) (inl a) = λ readable n only. script_folds n (script_of script) ts sink_failed memory sent enough only own a.ran
-    job_folds (Script script) (inr h) = λ readable n only. absurd (not_stopped script readable h.fault h.why h.told)
+    job_folds (Script script schedule) (inl a) = λ readable n only. script_folds n (script_of script) ts sink_failed memory sent enough only own a.ran
+    job_folds (Script script schedule) (inr h) = λ readable n only. absurd (not_stopped script readable h.fault h.why h.told)
     job_folds (Verify v) h = tt
     job_folds (Load l) (inl h) = λ only. script_folds 1 (script_of (load_text l)) ts false h.lacked refl (not_lacked h.lacked h.told) only own h.ran
     job_folds (Load l) (inr h) = λ only. absurd (false≢true (sym enough ∙ h.lacked))
@@ -397,8 +396,8 @@ ran_all false (suc n) memory c h = absurd (all_not (status.Device (suc n)) (λ e
 
 -- ---- 8. A run
 
-pub run_folds : (sound : Type 0) (k : Known) (job : Job) (ts : List Transcript) (sink_failed memory : Bool) (failed : ℕ) (status : Status) → k.damaged ≡ undamaged → IsLegal k.base k.seen → AnswersJob sound k 0 job ts sink_failed memory
+pub run_folds : (sound : Type 0) (k : Known) (job : Job) (ts : List Transcript) (sink_failed memory : Bool) (failed : ℕ) (status : Status) → IsLegal k.base k.seen → AnswersJob sound k 0 job ts sink_failed memory
     → status ≡ status_of sink_failed failed memory (causes_of (items_of ts)) → sound → HasRunAll status → AreQuiet (items_of ts) → FoldsJob k.base k.seen job ts
-run_folds sound k job ts sink_failed memory failed status whole legal answers is is_sound all quiet =
+run_folds sound k job ts sink_failed memory failed status legal answers is is_sound all quiet =
     let ran = ran_all sink_failed failed memory (causes_of (items_of ts)) (subst HasRunAll is all) in
-    job_folds sound k whole legal (λ j a b at to items acts own replied. folds sound is_sound j a b at to items acts own replied) ts sink_failed memory ran.0 ran.1 quiet job answers
+    job_folds sound k legal (λ j a b at to items acts own replied. folds sound is_sound j a b at to items acts own replied) ts sink_failed memory ran.0 ran.1 quiet job answers

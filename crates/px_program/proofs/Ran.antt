@@ -39,6 +39,7 @@ use Rattle.px_program.specs.declared.outcome.Outcome.{Outcome}
 use Rattle.px_program.specs.declared.status.Status.{Status}
 use Rattle.px_program.specs.declared.status.Status.TheVariants.{BadWords, Memory, SourceFault}
 use Rattle.px_program.proofs.Complete.{complete, job_ended}
+use Rattle.px_program.proofs.Items.{undamaged_at}
 use Rattle.px_program.proofs.OneSession.{run_folds}
 
 -- a disk of the premise of a run, on which no call is made
@@ -237,7 +238,7 @@ module _ {D C I O : Type 0} (d : DiskGhosts D) (c : ClockGhosts C) (s : SourceGh
 
 module _ {D C I O : Type 0} (d : DiskGhosts D) (c : ClockGhosts C) (s : SourceGhosts I) (k : SinkGhosts O) (disk : D) (clock : C) (input input' : I) (out out' : O) (words : List (List ℕ)) (command : SeenCommand) (named : command_in words ≡ Some command) (read : HasRead s command input input') (o : Outcome D) where
   some_read : (x : SeenCommand) → HasRead s x input input' → HasReadSome s x input input'
-  some_read (Run folder lookback) r = λ tells. (most_read, omega arith, r tells)
+  some_read (Run folder lookback schedule) r = λ tells. (most_read, omega arith, r tells)
   some_read (Verify folder table index kind) r = r
   some_read (Load folder load) r = r
 
@@ -263,7 +264,7 @@ module _ {D C I O : Type 0} (d : DiskGhosts D) (c : ClockGhosts C) (s : SourceGh
     seat = r.over.seat;
     sink_failed = r.over.sink_failed;
     items_are_replied = r.over.replied;
-    one_session_folds = run_folds (IsSoundFolder r.folder) (known_over (base_of r.folder) r.over.seat o.trail.entries) job o.transcripts r.over.sink_failed o.memory (d.first_fault o.disk) o.status refl r.over.legal r.over.replied r.over.status;
+    one_session_folds = run_folds (IsSoundFolder r.folder) (known_over (base_of r.folder) r.over.seat o.trail.entries) job o.transcripts r.over.sink_failed o.memory (d.first_fault o.disk) o.status r.over.legal r.over.replied r.over.status;
     bytes_are_printed = r.over.written;
     stops_recover = λ starts moment image left. r.over.recovers (starts_reads d disk starts) moment image (inl starts, left);
     opened = r.opened;
@@ -280,8 +281,8 @@ module _ {D C I O : Type 0} (d : DiskGhosts D) (c : ClockGhosts C) (s : SourceGh
     closed_by_its_last_call = r.over.closed_at;
     status_is_caused = r.over.status;
     faults_are_theirs = r.over.blamed;
-    all_is_ended = job_ended (IsSoundFolder r.folder) (known_over (base_of r.folder) r.over.seat o.trail.entries) job o.transcripts r.over.sink_failed o.memory refl r.over.replied;
-    run_is_complete = complete (IsSoundFolder r.folder) (known_over (base_of r.folder) r.over.seat o.trail.entries) job o.transcripts r.over.sink_failed o.memory d k o.disk out out' (printed_for job o.transcripts) o.status refl r.over.replied r.over.written r.over.status r.over.blamed known failed;
+    all_is_ended = job_ended (IsSoundFolder r.folder) (known_over (base_of r.folder) r.over.seat o.trail.entries) job o.transcripts r.over.sink_failed o.memory r.over.replied;
+    run_is_complete = complete (IsSoundFolder r.folder) (known_over (base_of r.folder) r.over.seat o.trail.entries) job o.transcripts r.over.sink_failed o.memory d k o.disk out out' (printed_for job o.transcripts) o.status (undamaged_at (IsSoundFolder r.folder) (known_over (base_of r.folder) r.over.seat o.trail.entries) refl) r.over.replied r.over.written r.over.status r.over.blamed known failed;
   })
   run_of job asks none fresh known failed (inr u) = inl (record {
     cause = subst (λ (x : Status). Stops d s disk o.disk input input' words x) (sym u.status) (stops_by fresh failed u.fault (d.first_fault o.disk) refl u.caused);

@@ -32,11 +32,10 @@ use Rattle.px_rounds.specs.Turns.{as_seat}
 use Rattle.px_rounds.proofs.Lists.{get_lt, get_some, some_same}
 use Rattle.px_server.specs.Kept.{has_told}
 use Rattle.px_program.specs.Complete.{AreItemsOf, AreWholeRounds, IsCommit, IsWhole, IsWholeRound}
-use Rattle.px_program.specs.Run.{undamaged}
 use Rattle.px_program.specs.Status.{is_of_disk, items_of, refused_by, some_refused_by}
 use Rattle.px_alone.proofs.Balanced.{IsBalanced, balanced-append, balanced-none}
 use Rattle.px_program.proofs.Flat.{any_of}
-use Rattle.px_program.proofs.Items.{fair, told_front}
+use Rattle.px_program.proofs.Items.{IsUndamaged, fair, told_front}
 
 -- ---- 1. Lists
 
@@ -94,9 +93,10 @@ own_none seat n m es e = ap (λ (q : ℕ). own_since seat q (take m es)) e ∙ a
 balanced_then : (seat a b c : ℕ) (es : List Entry) → a ≤ b → b ≤ c → IsBalanced (own_since seat a (take b es)) → IsBalanced (own_since seat b (take c es)) → IsBalanced (own_since seat a (take c es))
 balanced_then seat a b c es h j x y = subst IsBalanced (sym (own_then seat a b c es h j)) (balanced-append _ _ x y)
 
--- items between two places: one that tells of the disk has an entry that tells it; and where none stops the session, its seat leaves nothing under way
-record AreFair (k : Known) (n m : ℕ) (items : List Item) : Type 0 where
-  told : some_refused_by is_of_disk items ≡ true → has_told k.seen ≡ true
+-- items between two places: where no place is found damaged, one that tells of the disk has an entry that tells it; and where none stops the session, its
+-- seat leaves nothing under way
+record AreFair (sound : Type 0) (k : Known) (n m : ℕ) (items : List Item) : Type 0 where
+  told : IsUndamaged sound k → some_refused_by is_of_disk items ≡ true → has_told k.seen ≡ true
   balanced : has_fatal items ≡ false → IsBalanced (own_since k.seat n (take m k.seen))
 
 module _ (sound : Type 0) where
@@ -106,22 +106,22 @@ module _ (sound : Type 0) where
 
   -- ---- 3. A session in a round
 
-  items_fair : (k : Known) → k.damaged ≡ undamaged → (n : ℕ) (at : Standing) (items : List Item) (m : ℕ) (to : Standing) → AreReplied sound k n at items m to → AreFair k n m items
-  items_fair k whole n at [] m to h = record { told = λ tell. absurd (false≢true tell); balanced = λ go. subst IsBalanced (sym (own_none k.seat n m k.seen h.0)) balanced-none }
-  items_fair k whole n at (i ∷ is) m to h =
+  items_fair : (k : Known) (n : ℕ) (at : Standing) (items : List Item) (m : ℕ) (to : Standing) → AreReplied sound k n at items m to → AreFair sound k n m items
+  items_fair k n at [] m to h = record { told = λ whole tell. absurd (false≢true tell); balanced = λ go. subst IsBalanced (sym (own_none k.seat n m k.seen h.0)) balanced-none }
+  items_fair k n at (i ∷ is) m to h =
       let last = i.evidence.last in
-      let one = fair sound (known_after last k) whole n (own_since k.seat n (take last k.seen)) at.settings h.0 (answer_with i h.2) h.4.right in
-      let others = items_fair k whole last (onward h.2 h.0 h.1) is m to h.5 in
+      let one = fair sound (known_after last k) n (own_since k.seat n (take last k.seen)) at.settings h.0 (answer_with i h.2) h.4.right in
+      let others = items_fair k last (onward h.2 h.0 h.1) is m to h.5 in
       let low : n ≤ last = (let a = h.4.begins in let b = h.4.ends in omega arith) in
       let high : last ≤ m = forward k last (onward h.2 h.0 h.1) is m to h.5 in
       record {
-        told = λ tell. or_elim (refused_by is_of_disk i.reply) (some_refused_by is_of_disk is) (λ here. told_front last k.seen (one.told here)) others.told tell;
+        told = λ whole tell. or_elim (refused_by is_of_disk i.reply) (some_refused_by is_of_disk is) (λ here. told_front last k.seen (one.told whole here)) (others.told whole) tell;
         balanced = λ go. (let none = or_none (is_fatal i.reply) (has_fatal is) go in balanced_then k.seat n last m k.seen low high (one.balanced none.0) (others.balanced none.1));
       }
 
-  session_fair : (k : Known) (from to : ℕ) (st : SessionState) (ps : List SeenPiece) (t : Transcript) (st' : SessionState) (e : Ending) → k.damaged ≡ undamaged → IsSessionAnswered sound k from to st ps t st' e → AreFair k from to t.items
-  session_fair k from to st ps t st' e whole h =
-      let items = items_fair k whole from (at_first st ps) t.items h.last h.standing h.replied in
+  session_fair : (k : Known) (from to : ℕ) (st : SessionState) (ps : List SeenPiece) (t : Transcript) (st' : SessionState) (e : Ending) → IsSessionAnswered sound k from to st ps t st' e → AreFair sound k from to t.items
+  session_fair k from to st ps t st' e h =
+      let items = items_fair k from (at_first st ps) t.items h.last h.standing h.replied in
       record {
         told = items.told;
         balanced = λ go. balanced_then k.seat from h.last to k.seen (forward k from (at_first st ps) t.items h.last h.standing h.replied) h.in_round (items.balanced go) (subst IsBalanced (sym h.rest) balanced-none);
@@ -129,20 +129,20 @@ module _ (sound : Type 0) where
 
   -- ---- 4. Rounds
 
-  module _ (k : Known) (whole : k.damaged ≡ undamaged) where
+  module _ (k : Known) where
     at_seat : (from to number : ℕ) (states : List SessionState) (round : List SessionText) (ts : List Transcript) (states' : List SessionState) (memory : Bool) → HasRound sound k from to number states round ts states' memory
-        → (i : ℕ) (t : Transcript) → slice_get ts i ≡ Some t → AreFair (as_seat (i + 1) k) from to t.items
+        → (i : ℕ) (t : Transcript) → slice_get ts i ≡ Some t → AreFair sound (as_seat (i + 1) k) from to t.items
     at_seat from to number states round ts states' memory h i t is =
         let low = get_lt ts t i is in
         let st = get_some states i (let c = h.count in omega arith) in
         let st' = get_some states' i (let c = h.count in let c' = h.count' in omega arith) in
         let told = h.each i st.0 t st'.0 st.1 is st'.1 in
-        session_fair (as_seat (i + 1) k) from to st.0 (pieces_from 0 told.sections) t st'.0 told.ending whole told.answered
+        session_fair (as_seat (i + 1) k) from to st.0 (pieces_from 0 told.sections) t st'.0 told.ending told.answered
 
-    round_told : (from to number : ℕ) (states : List SessionState) (round : List SessionText) (ts : List Transcript) (states' : List SessionState) (memory : Bool) → HasRound sound k from to number states round ts states' memory → some_refused_by is_of_disk (items_of ts) ≡ true → has_told k.seen ≡ true
-    round_told from to number states round ts states' memory h tell =
+    round_told : (from to number : ℕ) (states : List SessionState) (round : List SessionText) (ts : List Transcript) (states' : List SessionState) (memory : Bool) → HasRound sound k from to number states round ts states' memory → IsUndamaged sound k → some_refused_by is_of_disk (items_of ts) ≡ true → has_told k.seen ≡ true
+    round_told from to number states round ts states' memory h whole tell =
         let at = any_at (λ (t : Transcript). some_refused_by is_of_disk t.items) ts (any_of (λ (i : Item). refused_by is_of_disk i.reply) ts ∙ tell) in
-        (at_seat from to number states round ts states' memory h at.0 at.1 at.2).told at.3
+        (at_seat from to number states round ts states' memory h at.0 at.1 at.2).told whole at.3
 
     pub round_balanced : (from to number : ℕ) (states : List SessionState) (round : List SessionText) (ts : List Transcript) (states' : List SessionState) (memory : Bool) → HasRound sound k from to number states round ts states' memory → has_fatal (items_of ts) ≡ false
         → (seat : ℕ) → IsBalanced (own_since seat from (take to k.seen))
@@ -163,14 +163,14 @@ module _ (sound : Type 0) where
     any_next p ts tss = ap (list_any p) (items_next ts tss) ∙ list_any-append p (items_of ts) (items_of (all_transcripts tss))
 
     pub rounds_told : (from number : ℕ) (states : List SessionState) (rounds : List (List SessionText)) (tss : List (List Transcript)) (to : ℕ) (states' : List SessionState) (memory : Bool) → AreRounds sound k from number states rounds tss to states' memory
-        → some_refused_by is_of_disk (items_of (all_transcripts tss)) ≡ true → has_told k.seen ≡ true
-    rounds_told from number states [] [] to states' memory h tell = absurd (false≢true tell)
-    rounds_told from number states (r ∷ rs) (ts ∷ tss) to states' memory h tell = or_elim (some_refused_by is_of_disk (items_of ts)) (some_refused_by is_of_disk (items_of (all_transcripts tss)))
-        (λ here. round_told from h.0 number states r ts h.1 memory h.2 here)
-        (λ more. rounds_told h.0 (number + 1) h.1 rs tss to states' memory h.3 more)
+        → IsUndamaged sound k → some_refused_by is_of_disk (items_of (all_transcripts tss)) ≡ true → has_told k.seen ≡ true
+    rounds_told from number states [] [] to states' memory h whole tell = absurd (false≢true tell)
+    rounds_told from number states (r ∷ rs) (ts ∷ tss) to states' memory h whole tell = or_elim (some_refused_by is_of_disk (items_of ts)) (some_refused_by is_of_disk (items_of (all_transcripts tss)))
+        (λ here. round_told from h.0 number states r ts h.1 memory h.2 whole here)
+        (λ more. rounds_told h.0 (number + 1) h.1 rs tss to states' memory h.3 whole more)
         (sym (any_next (λ (i : Item). refused_by is_of_disk i.reply) ts tss) ∙ tell)
-    rounds_told from number states [] (ts ∷ tss) to states' memory h tell = absurd h
-    rounds_told from number states (r ∷ rs) [] to states' memory h tell = absurd h
+    rounds_told from number states [] (ts ∷ tss) to states' memory h whole tell = absurd h
+    rounds_told from number states (r ∷ rs) [] to states' memory h whole tell = absurd h
 
     pub rounds_forward : (from number : ℕ) (states : List SessionState) (rounds : List (List SessionText)) (tss : List (List Transcript)) (to : ℕ) (states' : List SessionState) (memory : Bool) → AreRounds sound k from number states rounds tss to states' memory → from ≤ to
     rounds_forward from number states [] [] to states' memory h = (let e = h.0 in omega arith)

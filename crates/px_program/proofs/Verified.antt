@@ -40,10 +40,9 @@ use Rattle.px_verified.specs.declared.asked.Verification.{Verification}
 use Rattle.px_verified.specs.Verified as verified
 use Rattle.px_verified.specs.Verified.{HasVerified, IsRightVerification, refusal_of, told_of_verification}
 use Rattle.px_program.specs.Answers.{AnswersVerification, one_item}
-use Rattle.px_program.specs.Run.{undamaged}
 use Rattle.px_program.specs.Status.{is_of_disk, refused_by}
 use Rattle.px_alone.proofs.Balanced.{IsBalanced, balanced-append, balanced-definition, balanced-none, balanced-point, balanced-state, balanced-within}
-use Rattle.px_program.proofs.Items.{IsFair, closed_by, told_by, told_more, tried_balanced, tries_balanced, undamaged_at}
+use Rattle.px_program.proofs.Items.{IsFair, IsUndamaged, closed_by, told_by, told_more, tried_balanced, tries_balanced, undamaged_before}
 
 -- 1. Parts are balanced
 
@@ -71,7 +70,7 @@ module _ (sound : Type 0) (t : TableId) (i : IndexId) (k : Known) where
   unreported_balanced : (n : ℕ) (own : List Act) (f : VerifyFault) → ReportRefused sound n t i own k f → IsBalanced own
   unreported_balanced n own f h = ⊎_elim (λ none. subst IsBalanced (sym none) balanced-none) (λ both. subst IsBalanced (sym both.1) (balanced-point t both.0 true)) h.outcome.1
 
-  undefined_balanced : (n : ℕ) (own : List Act) (f : VerifyFault) → DefinitionRefused n t i own k f → IsBalanced own
+  undefined_balanced : (n : ℕ) (own : List Act) (f : VerifyFault) → DefinitionRefused sound n t i own k f → IsBalanced own
   undefined_balanced n own f h = subst IsBalanced (sym h.outcome.1) balanced-none
 
   unbuilt_balanced : (n : ℕ) (own : List Act) (f : VerifyFault) → BuildRefused sound n t i own k f → IsBalanced own
@@ -88,35 +87,35 @@ module _ (sound : Type 0) (t : TableId) (i : IndexId) (k : Known) where
 
 -- 2. A refusal for the disk's sake has an entry that tells it
 
-module _ (sound : Type 0) (k : Known) (whole : k.damaged ≡ undamaged) (v : Verification) where
+module _ (sound : Type 0) (k : Known) (v : Verification) where
   Tells : VerifyFault → Type 0
-  Tells f = is_of_disk (cause_of (refusal_of v f)) ≡ true → has_told k.seen ≡ true
+  Tells f = IsUndamaged sound k → is_of_disk (cause_of (refusal_of v f)) ≡ true → has_told k.seen ≡ true
 
-  report_tells : (t : TableId) (i : IndexId) (f : ReportFault) → ReportFaultIs t i f k → Tells (report_fault f)
+  report_tells : (t : TableId) (i : IndexId) (f : ReportFault) → ReportFaultIs sound t i f k → Tells (report_fault f)
   unfolding Tells
-  report_tells t i unread.ReadFault is tell = told_by k.seat (Missed is.0) k.seen refl is.1
-  report_tells t i (unread.Damaged file place) is tell = absurd (undamaged_at k whole file place is)
-  report_tells t i (unread.Closed call) is tell = closed_by call k.seen is
-  report_tells t i f is tell = absurd (false≢true tell)
+  report_tells t i unread.ReadFault is whole tell = told_by k.seat (Missed is.0) k.seen refl is.1
+  report_tells t i (unread.Damaged file place) is whole tell = absurd (whole file place is)
+  report_tells t i (unread.Closed call) is whole tell = closed_by call k.seen is
+  report_tells t i f is whole tell = absurd (false≢true tell)
 
-  define_tells : (t : TableId) (i : IndexId) (f : DefineFault) → define.DefinitionFaultIs (d.Rebuilding t i) f k → Tells (definition_fault f)
+  define_tells : (t : TableId) (i : IndexId) (f : DefineFault) → define.DefinitionFaultIs sound (d.Rebuilding t i) f k → Tells (definition_fault f)
   unfolding Tells
-  define_tells t i undone.ReadFault is tell = told_by k.seat (Missed is.0) k.seen refl is.1
-  define_tells t i undone.WriteFault is tell = told_by k.seat (Shut is.0) k.seen refl is.1
-  define_tells t i (undone.Damaged file place) is tell = absurd (undamaged_at k whole file place is)
-  define_tells t i (undone.Closed call) is tell = closed_by call k.seen is
-  define_tells t i f is tell = absurd (false≢true tell)
+  define_tells t i undone.ReadFault is whole tell = told_by k.seat (Missed is.0) k.seen refl is.1
+  define_tells t i undone.WriteFault is whole tell = told_by k.seat (Shut is.0) k.seen refl is.1
+  define_tells t i (undone.Damaged file place) is whole tell = absurd (whole file place is)
+  define_tells t i (undone.Closed call) is whole tell = closed_by call k.seen is
+  define_tells t i f is whole tell = absurd (false≢true tell)
 
-  build_here : (was : Known) → was.damaged ≡ undamaged → (t i : ℕ) (f : BuildFault) → building.BuildFaultIs sound t i f was → is_of_disk (cause_of (refusal_of v (build_fault f))) ≡ true → has_told was.seen ≡ true
-  build_here was fine t i unbuilt.ReadFault is tell = told_by was.seat (Missed is.0) was.seen refl is.1
-  build_here was fine t i unbuilt.WriteFault is tell = told_by was.seat (Shut is.0) was.seen refl is.1
-  build_here was fine t i (unbuilt.Damaged file place) is tell = absurd (undamaged_at was fine file place is)
-  build_here was fine t i (unbuilt.Closed call) is tell = closed_by call was.seen is
-  build_here was fine t i f is tell = absurd (false≢true tell)
+  build_here : (was : Known) (t i : ℕ) (f : BuildFault) → building.BuildFaultIs sound t i f was → IsUndamaged sound was → is_of_disk (cause_of (refusal_of v (build_fault f))) ≡ true → has_told was.seen ≡ true
+  build_here was t i unbuilt.ReadFault is fine tell = told_by was.seat (Missed is.0) was.seen refl is.1
+  build_here was t i unbuilt.WriteFault is fine tell = told_by was.seat (Shut is.0) was.seen refl is.1
+  build_here was t i (unbuilt.Damaged file place) is fine tell = absurd (fine file place is)
+  build_here was t i (unbuilt.Closed call) is fine tell = closed_by call was.seen is
+  build_here was t i f is fine tell = absurd (false≢true tell)
 
   build_tells : (n t i : ℕ) (f : BuildFault) → building.WasRefused sound n t i f k → Tells (build_fault f)
   unfolding Tells
-  build_tells n t i f w tell = subst (λ (es : List Entry). has_told es ≡ true) (sym w.past.seen) (told_more w.was.seen w.past.more (build_here w.was (sym w.past.damaged ∙ whole) t i f w.cause tell))
+  build_tells n t i f w whole tell = subst (λ (es : List Entry). has_told es ≡ true) (sym w.past.seen) (told_more w.was.seen w.past.more (build_here w.was t i f w.cause (undamaged_before sound w.was k w.past.damaged whole) tell))
 
   refused_tells : (t : TableId) (i : IndexId) (n : ℕ) (kind : VerifyKind) (own : List Act) (x : Reports) (f : VerifyFault) → WasPartRefused sound n t i kind own k x f → Tells f
   refused_tells t i n kind own x f (inl h) = subst Tells (sym h.1.fault) (report_tells t i h.1.why h.1.outcome.0)
@@ -125,22 +124,22 @@ module _ (sound : Type 0) (k : Known) (whole : k.damaged ≡ undamaged) (v : Ver
       (λ r. subst Tells (sym r.fault) (build_tells r.again.at t.0 i.0 r.why r.outcome.0)) h.1
   refused_tells t i n kind own x f (inr (inr h)) = subst Tells (sym h.1.fault) (report_tells t i h.1.why h.1.outcome.0)
 
-  outcome_tells : (t : TableId) (i : IndexId) (n : ℕ) (kind : VerifyKind) (own : List Act) (r : Result Reports Unfinished) → IsVerificationOutcome sound n t i kind own k r → refused_by is_of_disk (told_of_verification v r) ≡ true → has_told k.seen ≡ true
+  outcome_tells : (t : TableId) (i : IndexId) (n : ℕ) (kind : VerifyKind) (own : List Act) (r : Result Reports Unfinished) → IsVerificationOutcome sound n t i kind own k r → IsUndamaged sound k → refused_by is_of_disk (told_of_verification v r) ≡ true → has_told k.seen ≡ true
   unfolding Tells
-  outcome_tells t i n kind own (Ok x) h tell = absurd (false≢true tell)
-  outcome_tells t i n kind own (Err u) h tell = refused_tells t i n kind h.last u.done u.fault h.refused tell
+  outcome_tells t i n kind own (Ok x) h whole tell = absurd (false≢true tell)
+  outcome_tells t i n kind own (Err u) h whole tell = refused_tells t i n kind h.last u.done u.fault h.refused whole tell
 
   -- nothing was done for it
-  still : (own : List Act) (r x : Reply) → r ≡ x → own ≡ [] → (refused_by is_of_disk x ≡ true → has_told k.seen ≡ true) → IsFair k own r
-  still own r x is none tells = record { told = λ tell. tells (sym (ap (refused_by is_of_disk) is) ∙ tell); balanced = λ go. subst IsBalanced (sym none) balanced-none }
+  still : (own : List Act) (r x : Reply) → r ≡ x → own ≡ [] → (IsUndamaged sound k → refused_by is_of_disk x ≡ true → has_told k.seen ≡ true) → IsFair sound k own r
+  still own r x is none tells = record { told = λ whole tell. tells whole (sym (ap (refused_by is_of_disk) is) ∙ tell); balanced = λ go. subst IsBalanced (sym none) balanced-none }
 
-  pub fair : (from : ℕ) (own : List Act) (r : Reply) → IsRightVerification sound k from own v r → IsFair k own r
-  fair from own r (verified.is_closed call closed says none) = still own r _ says none (λ tell. closed_by call k.seen closed)
-  fair from own r (verified.is_unfound n since within lacks says none) = still own r _ says none (λ tell. absurd (false≢true tell))
-  fair from own r (verified.is_not_indexed n f since stood lacks says none) = still own r _ says none (λ tell. absurd (false≢true tell))
-  fair from own r (verified.is_lacking says none) = still own r _ says none (λ tell. absurd (false≢true tell))
+  pub fair : (from : ℕ) (own : List Act) (r : Reply) → IsRightVerification sound k from own v r → IsFair sound k own r
+  fair from own r (verified.is_closed call closed says none) = still own r _ says none (λ whole tell. closed_by call k.seen closed)
+  fair from own r (verified.is_unfound n since within lacks says none) = still own r _ says none (λ whole tell. absurd (false≢true tell))
+  fair from own r (verified.is_not_indexed n f since stood lacks says none) = still own r _ says none (λ whole tell. absurd (false≢true tell))
+  fair from own r (verified.is_lacking says none) = still own r _ says none (λ whole tell. absurd (false≢true tell))
   fair from own r (verified.is_over n f i came since stood named outcome says) = record {
-    told = λ tell. outcome_tells f.table.id i n v.kind own came outcome (sym (ap (refused_by is_of_disk) says) ∙ tell);
+    told = λ whole tell. outcome_tells f.table.id i n v.kind own came outcome whole (sym (ap (refused_by is_of_disk) says) ∙ tell);
     balanced = λ go. outcome_balanced sound f.table.id i k n v.kind own came outcome;
   }
 

@@ -79,18 +79,18 @@ AnswersVerification sound k from v ts memory = IsVerified sound k from v ts ⊎ 
 
 -- the answers to a job
 abbrev pub AnswersJob : Type 0 → Known → ℕ → Job → List Transcript → (sink_failed memory : Bool) → Type 0
-AnswersJob sound k from (Script script) ts sink_failed memory = AnswersScript sound k from script ts sink_failed memory
+AnswersJob sound k from (Script script schedule) ts sink_failed memory = AnswersScript sound k from script ts sink_failed memory
 AnswersJob sound k from (Verify v) ts sink_failed memory = AnswersVerification sound k from v ts memory
 AnswersJob sound k from (Load l) ts sink_failed memory = RanLoad sound k from l ts memory
 
 -- what is printed of the answers to a job: the replies; of a load the first refusal alone, or the counts of its rows
 abbrev pub printed_for : Job → List Transcript → List ℕ
-printed_for (Script script) ts = printed ts
+printed_for (Script script schedule) ts = printed ts
 printed_for (Verify v) ts = printed ts
 printed_for (Load l) ts = told_of_load l ts
 
 -- a load has at most 100,000 rows
 abbrev pub IsWithin : Job → Type 0
-IsWithin (Script script) = Unit {0}
+IsWithin (Script script schedule) = Unit {0}
 IsWithin (Verify v) = Unit {0}
 IsWithin (Load l) = l.rows ≤ 100000

@@ -79,13 +79,13 @@ IsOneReply ts = (reply : Reply) × (first : ℕ) × (last : ℕ) × (ts ≡ one_
 
 -- all that a job asks for has its reply
 abbrev pub IsWholeJob : Job → List Transcript → Type 0
-IsWholeJob (Script script) ts = IsWholeScript script ts
+IsWholeJob (Script script schedule) ts = IsWholeScript script ts
 IsWholeJob (Verify v) ts = IsOneReply ts
 IsWholeJob (Load l) ts = IsWholeScript (load_text l) ts
 
 -- so, or nothing of the script is run; that of a load always is
 abbrev pub HasEnded : Job → List Transcript → Type 0
-HasEnded (Script script) ts = IsWholeScript script ts ⊎ IsToldWhy script ts
+HasEnded (Script script schedule) ts = IsWholeScript script ts ⊎ IsToldWhy script ts
 HasEnded (Verify v) ts = IsOneReply ts
 HasEnded (Load l) ts = IsWholeScript (load_text l) ts
 

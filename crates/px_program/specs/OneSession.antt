@@ -57,7 +57,7 @@ pub record IsFoldOf (b : Base) (es : List Entry) (n : ℕ) (script : List (List 
 
 -- So it is where a job's script, that of a load too, can be read, and names one session. A verification has none
 abbrev pub FoldsJob : Base → List Entry → Job → List Transcript → Type 0
-FoldsJob b es (Script script) ts = IsReadableScript script → (n : ℕ) → NamesOnly n (script_of script) → IsFoldOf b es n (script_of script) ts
+FoldsJob b es (Script script schedule) ts = IsReadableScript script → (n : ℕ) → NamesOnly n (script_of script) → IsFoldOf b es n (script_of script) ts
 FoldsJob b es (Verify v) ts = Unit {0}
 FoldsJob b es (Load l) ts = NamesOnly 1 (script_of (load_text l)) → IsFoldOf b es 1 (script_of (load_text l)) ts
 

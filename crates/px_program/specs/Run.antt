@@ -76,23 +76,24 @@ ReadsSome s input input' = IsTrue s.tells → (n : ℕ) × (n ≤ most_read) × 
 
 -- a command's input was read: of a script all of it; for a verification and a load none
 abbrev pub HasRead : {I : Type 0} → SourceGhosts I → SeenCommand → I → I → Type 0
-HasRead s (Run folder lookback) input input' = ReadsAll s input input'
+HasRead s (Run folder lookback schedule) input input' = ReadsAll s input input'
 HasRead s (Verify folder table index kind) input input' = input' ≡ input
 HasRead s (Load folder load) input input' = input' ≡ input
 
 -- or some of it was, until the run was stopped
 abbrev pub HasReadSome : {I : Type 0} → SourceGhosts I → SeenCommand → I → I → Type 0
-HasReadSome s (Run folder lookback) input input' = ReadsSome s input input'
+HasReadSome s (Run folder lookback schedule) input input' = ReadsSome s input input'
 HasReadSome s (Verify folder table index kind) input input' = input' ≡ input
 HasReadSome s (Load folder load) input input' = input' ≡ input
 
 -- ---- the command
 
--- the words are `run DIR`, with a lookback or none, and the script is the input to its end, or to one byte past the greatest script
-pub record RunsScript {I : Type 0} (s : SourceGhosts I) (words : List (List ℕ)) (input input' : I) (script : List ℕ) : Type 0 where
+-- the words are `run DIR`, with a lookback or none, and with this schedule or none, and the script is the input to its end, or to one byte past the
+-- greatest script
+pub record RunsScript {I : Type 0} (s : SourceGhosts I) (words : List (List ℕ)) (input input' : I) (script : List ℕ) (schedule : Option (List ℕ)) : Type 0 where
   pub folder : List ℕ
   pub lookback : ℕ
-  pub words_are_run : command_in words ≡ Some (Run folder lookback)
+  pub words_are_run : command_in words ≡ Some (Run folder lookback schedule)
   pub script_is_the_input : IsTrue s.tells → script ≡ take most_read (s.remaining input)
   pub input_is_read : ReadsAll s input input'
 
@@ -110,13 +111,13 @@ pub record RunsLoad {I : Type 0} (words : List (List ℕ)) (input input' : I) (l
 
 -- how long the words have versions kept
 abbrev pub lookback_of : SeenCommand → ℕ
-lookback_of (Run folder lookback) = lookback
+lookback_of (Run folder lookback schedule) = lookback
 lookback_of (Verify folder table index kind) = usual_lookback
 lookback_of (Load folder load) = usual_lookback
 
 -- the job is what the words ask for
 abbrev pub AsksFor : {I : Type 0} → SourceGhosts I → (words : List (List ℕ)) → I → I → Job → Type 0
-AsksFor s words input input' (jobs.Script script) = RunsScript s words input input' script
+AsksFor s words input input' (jobs.Script script schedule) = RunsScript s words input input' script schedule
 AsksFor s words input input' (jobs.Verify v) = RunsVerification words input input' v
 AsksFor s words input input' (jobs.Load l) = RunsLoad words input input' l
 
@@ -153,7 +154,7 @@ StopsDisk d disk disk' status = ⊥
 -- why nothing was run, and what became of disk and input
 abbrev pub Stops : {D I : Type 0} → DiskGhosts D → SourceGhosts I → D → D → I → I → (words : List (List ℕ)) → Status → Type 0
 Stops d s disk disk' input input' words BadWords = (command_in words ≡ None) × (disk' ≡ disk) × (input' ≡ input)
-Stops d s disk disk' input input' words SourceFault = ((folder : List ℕ) × (lookback : ℕ) × (command_in words ≡ Some (Run folder lookback))) × (disk' ≡ disk) × FaultsRose (s.faults input) (s.faults input') × ReadsSome s input input'
+Stops d s disk disk' input input' words SourceFault = ((folder : List ℕ) × (lookback : ℕ) × (schedule : Option (List ℕ)) × (command_in words ≡ Some (Run folder lookback schedule))) × (disk' ≡ disk) × FaultsRose (s.faults input) (s.faults input') × ReadsSome s input input'
 Stops d s disk disk' input input' words Memory = (c : SeenCommand) × (command_in words ≡ Some c) × StopsDisk d disk disk' Memory × HasReadSome s c input input'
 Stops d s disk disk' input input' words status = (c : SeenCommand) × (command_in words ≡ Some c) × StopsDisk d disk disk' status × HasRead s c input input'
 

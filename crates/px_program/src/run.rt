@@ -13,7 +13,7 @@ ghost use Rattle.px_server.specs.Others.{BeginsAt, beginning_at};
 ghost use Rattle.px_server.specs.Shown.{known_by};
 ghost use Rattle.px_server.specs.Started.{IsOpenedOn, StartsSound};
 ghost use Rattle.px_program.specs.Answers.{AnswersJob, IsWithin, printed_for};
-ghost use Rattle.px_arguments.specs.Arguments.{Load as Loads, Run, Verify, command_in as command_said};
+ghost use Rattle.px_arguments.specs.Arguments.{Load as Loads, Run, Verify, command_in as command_said, listed_in};
 ghost use Rattle.px_program.specs.Run.{FaultsAreTold, IsRun, IsUnrun, run_given, run_left, undamaged};
 ghost use Rattle.px_program.specs.Status.{is_memory_status};
 ghost use Rattle.px_program.specs.inner.Running.{IsOpenedNow, RanOn, RanOpened, StoodBefore, IsLeftSince, stopped_by};
@@ -25,7 +25,7 @@ use crate::served::{run_script, run_verified};
 use crate::since::{Later, Since};
 use crate::status::Status;
 use crate::watched::Watched;
-use crate::words::verification;
+use crate::words::{schedule_of, verification};
 use px_arguments::{Command, LOOKBACK, command_in, law_spelled};
 use px_load::Load;
 use px_loaded::run_load;
@@ -58,6 +58,14 @@ fn status_unopened(fault: OpenFault, failed: u64) -> Status
     }
 }
 
+/// The sessions whose steps are next, where they are listed.
+fn listed(schedule: &Option<Items<u32>>) -> Option<&[u32]> {
+    match schedule {
+        Some(list) => Some(list.as_slice()),
+        None => None,
+    }
+}
+
 /// Does a job on a server with which nothing was done, and writes the replies.
 fn serve<
     R: Threads + Wait + Sync,
@@ -73,9 +81,11 @@ fn serve<
     ensures written { IsTextWritten ⟦<O as Sink>⟧ out.old out.new (printed_for job result.transcripts) result.sink_failed result.memory }
 {
     match job {
-        Job::Script(script) => {
-            let rounds = run_script(rt, alloc, server, script.as_slice(), out);
+        Job::Script { script, schedule } => {
+            let list = listed(&schedule);
+            let rounds = run_script(rt, alloc, server, script.as_slice(), list, out);
             drop(script);
+            drop(schedule);
             rounds
         }
         Job::Verify(asked) => run_verified(rt, alloc, server, asked, out),
@@ -261,7 +271,7 @@ fn untouched<D: Disk>(alloc: Global, disk: D, status: Status) -> Outcome<D>
     unrun(alloc, disk, status)
 }
 
-/// Reads a script from the input, and runs its sessions.
+/// Reads a script from the input, and runs its sessions, by the schedule where there is one.
 fn run_input<R: Threads + Wait + Sync, D: Disk + Send, C: Clock + Drop + Send, I: Source, O: Sink>(
     rt: &R,
     alloc: Global,
@@ -269,22 +279,56 @@ fn run_input<R: Threads + Wait + Sync, D: Disk + Send, C: Clock + Drop + Send, I
     disk: D,
     clock: C,
     lookback: u64,
+    schedule: Option<Items<u32>>,
     input: &mut I,
     out: &mut O,
 ) -> Outcome<D>
     requires fresh { (D.calls disk ≡ 0) × (D.faults disk ≡ 0) × (D.first_fault disk ≡ 0) }
-    requires named { (folder : List ℕ) × (command_said (map string_bytes words.now) ≡ Some (Run folder lookback)) }
+    requires named { (folder : List ℕ) × (command_said (map string_bytes words.now) ≡ Some (Run folder lookback schedule)) }
     ensures run { IsUnrun ⟦<D as Disk>⟧ ⟦<I as Source>⟧ (run_given disk clock input.old out.old (map string_bytes words.now)) (run_left result input.new out.new)
         ⊎ IsRun ⟦<D as Disk>⟧ ⟦<C as Clock>⟧ ⟦<I as Source>⟧ ⟦<O as Sink>⟧ (run_given disk clock input.old out.old (map string_bytes words.now)) (run_left result input.new out.new) }
     ensures faults_are_told { FaultsAreTold ⟦<D as Disk>⟧ disk result.disk result.status }
 {
     match read_all(alloc, input, MOST_READ) {
         Ok(script) => {
-            let job = Job::Script(Items::of(script));
+            let script = Items::of(script);
+            let job = Job::Script { script, schedule };
             run_folder(rt, alloc, job, disk, clock, lookback, out)
         }
-        Err(InputFault::ReadFault) => untouched(alloc, disk, Status::SourceFault),
-        Err(InputFault::Memory) => untouched(alloc, disk, Status::Memory),
+        Err(InputFault::ReadFault) => {
+            drop(schedule);
+            untouched(alloc, disk, Status::SourceFault)
+        }
+        Err(InputFault::Memory) => {
+            drop(schedule);
+            untouched(alloc, disk, Status::Memory)
+        }
+    }
+}
+
+/// The same, where the schedule is as it was written.
+fn run_listed<R: Threads + Wait + Sync, D: Disk + Send, C: Clock + Drop + Send, I: Source, O: Sink>(
+    rt: &R,
+    alloc: Global,
+    words: &[String],
+    disk: D,
+    clock: C,
+    lookback: u64,
+    list: Option<&str>,
+    input: &mut I,
+    out: &mut O,
+) -> Outcome<D>
+    requires fresh { (D.calls disk ≡ 0) × (D.faults disk ≡ 0) × (D.first_fault disk ≡ 0) }
+    requires named { (folder : List ℕ) × (command_said (map string_bytes words.now) ≡ Some (Run folder lookback (listed_in list))) }
+    ensures run { IsUnrun ⟦<D as Disk>⟧ ⟦<I as Source>⟧ (run_given disk clock input.old out.old (map string_bytes words.now)) (run_left result input.new out.new)
+        ⊎ IsRun ⟦<D as Disk>⟧ ⟦<C as Clock>⟧ ⟦<I as Source>⟧ ⟦<O as Sink>⟧ (run_given disk clock input.old out.old (map string_bytes words.now)) (run_left result input.new out.new) }
+    ensures faults_are_told { FaultsAreTold ⟦<D as Disk>⟧ disk result.disk result.status }
+{
+    match schedule_of(alloc, list) {
+        Ok(schedule) => run_input(
+            rt, alloc, words, disk, clock, lookback, schedule, input, out,
+        ),
+        Err(_) => untouched(alloc, disk, Status::Memory),
     }
 }
 
@@ -375,8 +419,9 @@ pub fn phoenix<
             Command::Run {
                 folder: _folder,
                 lookback,
+                schedule: list,
             },
-        ) => run_input(rt, alloc, words, disk, clock, lookback, input, out),
+        ) => run_listed(rt, alloc, words, disk, clock, lookback, list, input, out),
         Some(
             Command::Verify {
                 folder: _folder,

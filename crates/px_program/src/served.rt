@@ -70,13 +70,14 @@ fn refuse<S: Single + Send, O: Sink>(
     }
 }
 
-/// Runs a script on a server with which nothing was done, and writes its replies. Nobody else acts on it.
+/// Runs a script on a server with which nothing was done, by a schedule where there is one, and writes its replies. Nobody else acts on it.
 #[tactic(auto, using(crate::proofs::Serving::is_single))]
 pub fn run_script<R: Threads + Wait + Sync, S: Single + Send, O: Sink>(
     rt: &R,
     alloc: Global,
     server: S,
     script: &[u8],
+    schedule: Option<&[u32]>,
     out: &mut O,
 ) -> Rounds<S>
     requires alone { (S.known server).alone ≡ true }
@@ -86,7 +87,7 @@ pub fn run_script<R: Threads + Wait + Sync, S: Single + Send, O: Sink>(
     ensures written { IsTextWritten ⟦<O as Sink>⟧ out.old out.new (printed result.transcripts) result.sink_failed result.memory }
 {
     match read_script(alloc, script) {
-        Ok(rounds) => run_rounds(rt, alloc, &NoGate, server, &rounds, None, out),
+        Ok(rounds) => run_rounds(rt, alloc, &NoGate, server, &rounds, schedule, out),
         Err(fault) => refuse(alloc, server, fault, script.len(), out),
     }
 }

@@ -50,7 +50,7 @@ pub fn tell<R: Eprint>(rt: &R, status: Status) {
     let _ = match status {
         Status::Done | Status::Refused => Ok(()),
         Status::BadWords => rt.eprintln(
-            "bad words\nusage: nipuhako run DIR [--lookback N] < SCRIPT\n       nipuhako verify DIR --table NAME --index NAME --kind NONE|ONLY|BEFORE|AFTER|BOTH\n       nipuhako load DIR --number S --rows N",
+            "bad words\nusage: nipuhako run DIR [--lookback N] [--schedule LIST] < SCRIPT\n       nipuhako verify DIR --table NAME --index NAME --kind NONE|ONLY|BEFORE|AFTER|BOTH\n       nipuhako load DIR --number S --rows N",
         ),
         Status::Device { call } => rt.eprintln(format_args!("device fault at call {call}")),
         Status::Memory => rt.eprintln("out of memory"),

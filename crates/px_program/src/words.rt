@@ -1,12 +1,13 @@
 // The words after the program's name.
 ghost use Rattle.std.specs.Prelude.{◌≡◌, map, option_map, IfOk, IfSome};
 ghost use Rattle.std.specs.String.{string_bytes};
+ghost use Rattle.px_arguments.specs.Arguments.{listed_in};
 ghost use Rattle.px_outside.specs.FolderDisk.{folder_calls, folder_faults, folder_first_fault, folder_name};
 ghost use Rattle.px_program.specs.Words.{folder_in_words};
 
-use px_arguments::command_in;
+use px_arguments::{command_in, sessions_listed};
 use px_outside::FolderDisk;
-use px_values::Name;
+use px_values::{Items, Name};
 use px_verified::{Verification, VerifyKind};
 use std::alloc::{AllocError, Global};
 use std::fs::File;
@@ -38,6 +39,19 @@ pub(crate) fn verification(
             drop(table);
             Err(fault)
         }
+    }
+}
+
+/// The sessions that a list names, where there is one.
+pub(crate) fn schedule_of(
+    alloc: Global,
+    list: Option<&str>,
+) -> Result<Option<Items<u32>>, AllocError>
+    ensures { IfOk result (λ schedule. schedule ≡ listed_in list.entry) }
+{
+    match list {
+        Some(list) => Ok(Some(Items::of(sessions_listed(alloc, list)?))),
+        None => Ok(None),
     }
 }
 
