@@ -110,6 +110,43 @@ fn a_damaged_log_is_refused_at_its_place(rt: HostRuntime) {
     assert!(rt; is_printed(&run, status, ""));
 }
 
+#[test]
+fn a_folder_without_a_catalogue_has_its_row(rt: HostRuntime) -> Result<(), AllocError> {
+    let alloc = rt.alloc();
+    let mut disk = MemDisk::new(alloc);
+    assert!(rt; disk.write(4_294_967_296, 0, &FIRST_SEGMENT).is_ok());
+    assert!(rt; disk.sync(4_294_967_296).is_ok());
+    let script = "SELECT * FROM KV; UPSERT INTO KV VALUES ('b','c'); SELECT * FROM KV;";
+    let run = run_again(&rt, alloc, disk, script)?;
+    let text = "'a', 'b'\n1 row selected\n1 row affected\n'a', 'b'\n'b', 'c'\n2 rows selected\n";
+    assert!(rt; is_printed(&run, Status::Done, text));
+    Ok(())
+}
+
+#[test]
+fn a_damaged_manifest_is_refused_at_its_place(rt: HostRuntime) -> Result<(), AllocError> {
+    let alloc = rt.alloc();
+    let script = "UPSERT INTO KV VALUES ('a','b'); SELECT * FROM KV;\n!flush\n";
+    let flushed = run_new(&rt, alloc, script)?;
+    assert!(rt;
+        is_printed(
+            &flushed,
+            Status::Done,
+            "1 row affected\n'a', 'b'\n1 row selected\nflushed\n"
+        )
+    );
+    let mut disk = disk_of(flushed).image();
+    assert!(rt; disk.write(4_294_967_298, 17, &[7]).is_ok());
+    assert!(rt; disk.sync(4_294_967_298).is_ok());
+    let run = run_again(&rt, alloc, disk, FIRST_SCRIPT)?;
+    let status = Status::Damaged {
+        file: 4_294_967_298,
+        place: 17,
+    };
+    assert!(rt; is_printed(&run, status, "") && run.entries == 0);
+    Ok(())
+}
+
 /// The value of the long row: characters of two, three and four bytes.
 const LONG_VALUE: &str = "\u{fc}\u{20ac}\u{1f600}";
 
@@ -153,7 +190,7 @@ fn reads_the_long_row<R: Threads + Wait + Sync>(rt: &R, alloc: Global) -> Result
     let script = "SELECT * FROM KV; UPSERT INTO KV VALUES ('a','b')";
     let run = run_again(rt, alloc, disk, script)?;
     let replies = long_replies(alloc)?;
-    Ok(written && run.printed.held() == replies.as_slice())
+    Ok(written && run.status == Status::Refused && run.printed.held() == replies.as_slice())
 }
 
 #[test]

@@ -1,5 +1,5 @@
 //! Tests of px_program over its one call, on disks in memory: what scripts print, each call of the disk, the input or the output
-//! failing, stops at each call, clocks that jump, folders that aren't of the format, sessions in rounds, changes
+//! failing, stops at each call, clocks that jump, folders that aren't of the format, sessions in rounds and by schedules, changes
 //! that are held, flushes, and compactions.
 #![tactic(auto)]
 
@@ -18,6 +18,8 @@ mod flushes;
 #[cfg(test)]
 mod held;
 pub mod runs;
+#[cfg(test)]
+mod schedules;
 #[cfg(test)]
 mod scripts;
 #[cfg(test)]

@@ -122,13 +122,14 @@ fn another_horizon_begins_anew(rt: HostRuntime) -> Result<(), Fail> {
     let given_up = matches!(region.forget_step(&mut disk, 2), Ok(ForgetStep::More))
         && region.wants_to_forget();
     let done = forget(&mut disk, &mut region, 2);
+    let kept = is_shown(shown(alloc, &mut disk, &mut region), KEPT);
     let horizon = region.horizon();
     // One that isn't above the horizon of before isn't wanted.
     region.order_compact();
     region.begin_forgetting::<MemDisk>(1);
     let wanted = region.wants_to_forget();
     drop(region);
-    assert!(rt; filled && given_up && done.is_some() && horizon == 2 && !wanted);
+    assert!(rt; filled && given_up && done.is_some() && kept && horizon == 2 && !wanted);
     Ok(())
 }
 

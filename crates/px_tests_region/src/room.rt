@@ -122,15 +122,24 @@ fn looks_once(alloc: Global, disk: &mut MemDisk, region: &mut Region) -> bool {
     done && same && region.looked() == 1
 }
 
-// The rows of a range, part by part.
+// The ten rows of a range, part by part: each of them, in order, with its two cells.
 fn gives_ten(region: &mut Region) -> bool {
-    let mut cells = 0usize;
-    for last in [b"k00054", b"k00059"] {
-        let part = region.rows(b"k00050", Some(last.as_slice()));
-        cells = cells.wrapping_add(part.cells.len());
+    let end = number_key(60);
+    let mut cells = 0u64;
+    for _part in 0..10 {
+        let part = region.rows(&number_key(50u64.wrapping_add(cells / 2)), Some(&end));
+        for cell in part.cells {
+            if cell.key() != number_key(50u64.wrapping_add(cells / 2)).as_slice() {
+                return false;
+            }
+            cells = cells.wrapping_add(1);
+        }
+        if part.is_all {
+            break;
+        }
     }
     region.look_at(10);
-    cells > 0 && region.looked() == 11
+    cells == 20 && region.looked() == 11
 }
 
 // What isn't so of a region that is filled, and read.

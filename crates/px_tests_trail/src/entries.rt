@@ -99,6 +99,13 @@ fn acts_without_changes_count_nothing(rt: HostRuntime) {
     assert!(rt; add(&mut trail, Act::Shut { call: 9 }));
     assert_eq!(rt; trail.len(), 3);
     assert_eq!(rt; trail.counted_bytes(), 0);
+    assert!(rt;
+        matches!(&trail.entry(0).act, Act::Fixed { index, key } if index.0 == 7 && key.as_slice().is_empty())
+    );
+    assert!(rt;
+        matches!(&trail.entry(1).act, Act::Phase { table, stamp: 3, phase: 1 } if table.0 == 5)
+    );
+    assert!(rt; matches!(&trail.entry(2).act, Act::Shut { call: 9 }));
     law_legal();
     law_told();
     law_stands();

@@ -5,4 +5,4 @@ pub returns-clause-ok : goal.returns-clause-ok
 returns-clause-ok c = finds c.args.self.now.seat
 
 pub returns-clause-still : goal.returns-clause-still
-returns-clause-still c = λ alone p v is_open was. was
+returns-clause-still c = λ alone sound p v is_open was. was
