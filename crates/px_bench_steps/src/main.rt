@@ -71,14 +71,15 @@ fn run<R: Runtime + Threads + Wait + Sync>(
 
 fn main(rt: HostRuntime) -> io::Result<()> {
     let mut words = env::args(&rt)?;
-    let _name = words.next();
-    match words.next() {
-        Some(rounds) => run(
-            &rt,
-            rt.alloc(),
-            rounds.as_str().parse::<u64>().unwrap_or(100),
-            true,
-        ),
+    drop(words.next());
+    let rounds = words.next();
+    drop(words);
+    match rounds {
+        Some(word) => {
+            let rounds = word.as_str().parse::<u64>().unwrap_or(100);
+            drop(word);
+            run(&rt, rt.alloc(), rounds, true)
+        }
         None => run(&rt, rt.alloc(), 1, false),
     }
 }

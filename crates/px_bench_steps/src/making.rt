@@ -29,41 +29,89 @@ fn customer(alloc: Global, number: u64) -> Result<Text, AllocError> {
     Ok(Text::of(text))
 }
 
+/// Adds what is set by a number: a customer, and the last three digits.
+fn assign(alloc: Global, number: u64, assignments: &mut Vec<Assignment>) -> Result<(), AllocError> {
+    let customer = customer(alloc, number)?;
+    assignments.push(Assignment {
+        column: 1,
+        value: Value::Text(customer),
+    })?;
+    assignments.push(Assignment {
+        column: 2,
+        value: Value::Number(i128::from(number % 1_000)),
+    })?;
+    Ok(())
+}
+
 fn what(alloc: Global, id: u64, kind: Kind) -> Result<What, AllocError> {
     let number = match kind {
         Kind::New => id.wrapping_mul(7_919),
         Kind::Changed => id.wrapping_mul(104_729),
     };
     let mut assignments = Vec::with_capacity(alloc, 2)?;
-    assignments.push(Assignment {
-        column: 1,
-        value: Value::Text(customer(alloc, number)?),
-    })?;
-    assignments.push(Assignment {
-        column: 2,
-        value: Value::Number(i128::from(number % 1_000)),
-    })?;
-    Ok(What::Set(Items::of(assignments)))
+    match assign(alloc, number, &mut assignments) {
+        Ok(()) => Ok(What::Set(Items::of(assignments))),
+        Err(failed) => {
+            drop(assignments);
+            Err(failed)
+        }
+    }
+}
+
+fn change(alloc: Global, id: u64, kind: Kind) -> Result<Change, AllocError> {
+    let row = row(alloc, id)?;
+    match what(alloc, id, kind) {
+        Ok(what) => Ok(Change { row, what }),
+        Err(failed) => {
+            drop(row);
+            Err(failed)
+        }
+    }
+}
+
+/// Adds the changes of one batch.
+fn add_changes(
+    alloc: Global,
+    first: u64,
+    kind: Kind,
+    changes: &mut Vec<Change>,
+) -> Result<(), AllocError> {
+    for place in 0..ROWS {
+        let change = change(alloc, first.wrapping_add(place), kind)?;
+        changes.push(change)?;
+    }
+    Ok(())
 }
 
 fn changes(alloc: Global, first: u64, kind: Kind) -> Result<Changes, AllocError> {
     let mut changes = Vec::with_capacity(alloc, ROWS as usize)?;
-    for place in 0..ROWS {
-        let id = first.wrapping_add(place);
-        let row = row(alloc, id)?;
-        let what = what(alloc, id, kind)?;
-        changes.push(Change { row, what })?;
+    match add_changes(alloc, first, kind, &mut changes) {
+        Ok(()) => Ok(Items::of(changes)),
+        Err(failed) => {
+            drop(changes);
+            Err(failed)
+        }
     }
-    Ok(Items::of(changes))
 }
 
-/// All batches of a kind.
-pub fn batches(alloc: Global, kind: Kind) -> Result<Vec<Batch>, AllocError> {
-    let mut all = Vec::new(alloc);
+/// Adds all batches of a kind.
+fn add_batches(alloc: Global, kind: Kind, all: &mut Vec<Batch>) -> Result<(), AllocError> {
     for place in 0..BATCHES {
         if let Some(batch) = Batch::of(changes(alloc, place.wrapping_mul(ROWS), kind)?) {
             all.push(batch)?;
         }
     }
-    Ok(all)
+    Ok(())
+}
+
+/// All batches of a kind.
+pub fn batches(alloc: Global, kind: Kind) -> Result<Vec<Batch>, AllocError> {
+    let mut all = Vec::new(alloc);
+    match add_batches(alloc, kind, &mut all) {
+        Ok(()) => Ok(all),
+        Err(failed) => {
+            drop(all);
+            Err(failed)
+        }
+    }
 }

@@ -44,8 +44,12 @@ fn timed<R: Runtime + Wait, S: Single>(
     kind: Kind,
 ) -> Option<Times> {
     let name = Name::from_str(alloc, "ORDERS").ok()?;
-    let all = batches(alloc, kind).ok()?;
+    let Ok(all) = batches(alloc, kind) else {
+        drop(name);
+        return None;
+    };
     let times = make_all(rt, s, &name, all);
+    drop(name);
     if times.rows == BATCHES * ROWS {
         Some(times)
     } else {
@@ -133,11 +137,13 @@ fn over_opened<
 pub fn round<R: Runtime + Threads + Wait + Sync>(rt: &R, alloc: Global) -> Option<Both> {
     let script = read_script(alloc, SET_UP.as_bytes()).ok()?;
     let mut disk = Metered::new(PlainDisk::new(alloc));
-    match open(alloc, &mut disk) {
+    let times = match open(alloc, &mut disk) {
         Ok(opened) => over_opened(rt, alloc, disk, FixedClock(0), opened, &script),
         Err(_) => {
             drop(disk);
             None
         }
-    }
+    };
+    drop(script);
+    times
 }

@@ -3,8 +3,8 @@ ghost use Rattle.std.specs.Prelude.{◌≡◌, ◌≢◌, ◌≤◌, [], true, l
 ghost use Rattle.px_trail.specs.Batches.{is_distinct, rows_of};
 ghost use Rattle.px_calls.specs.Requires.{AreFitting};
 
-use px_batch::{BatchRun, BatchTurn};
-use px_calls::{Steps, Work};
+use px_batch::{BatchFault, BatchRun, BatchTurn};
+use px_calls::{Receipt, Steps, Work};
 use px_tests_making::{Batch, are_fitting};
 use px_values::{Changes, Name, TableId};
 use std::alloc::Global;
@@ -66,6 +66,18 @@ fn since<R: Runtime>(rt: &R, start: &Option<Instant>) -> u64 {
     }
 }
 
+/// How many rows a batch wrote that is over; none where it made other steps.
+fn rows_made(made: &Result<Receipt, BatchFault>, step: usize) -> u64 {
+    match made {
+        Ok(receipt) => if step == 6 {
+            u64::from(receipt.rows)
+        } else {
+            0
+        },
+        Err(_) => 0,
+    }
+}
+
 /// Makes a batch, and adds how long each of its steps took.
 fn step_all<R: Runtime + Wait, S: Steps>(
     rt: &R,
@@ -91,14 +103,9 @@ fn step_all<R: Runtime + Wait, S: Steps>(
             BatchTurn::Waiting { .. } => thread::yield_now(),
             BatchTurn::Over(result) => {
                 run.finish();
-                if let Ok(receipt) = result {
-                    let rows = if step == 6 {
-                        u64::from(receipt.rows)
-                    } else {
-                        0
-                    };
-                    times.rows = times.rows.saturating_add(rows);
-                }
+                let rows = rows_made(&result, step);
+                drop(result);
+                times.rows = times.rows.saturating_add(rows);
                 return;
             }
         }

@@ -105,6 +105,21 @@ impl Check {
         };
         Ok(())
     }
+
+    /// Adds all that is asked of both indexes: up to a stamp, and of so many random ones from each birth on.
+    fn fill(&mut self, dice: &mut Dice, last: u64, count: u32) -> Result<(), AllocError> {
+        let stands = self.stands;
+        self.add_query(By::Table, u64::MAX)?;
+        self.add_newest()?;
+        self.add_birth(birth_of(stands.first))?;
+        self.add_birth(birth_of(stands.second))?;
+        self.add_points(dice, birth_of(stands.first), last, count)?;
+        self.add_points(dice, birth_of(stands.second), last, count)?;
+        self.add_command("!scn off\n")?;
+        self.add_newest()?;
+        self.add_rebuilding()?;
+        self.add_newest()
+    }
 }
 
 /// What is asked where these indexes stand. The first query is of the newest rows by the table.
@@ -120,17 +135,13 @@ pub fn check_of(
         asked: Vec::new(alloc),
         stands,
     };
-    check.add_query(By::Table, u64::MAX)?;
-    check.add_newest()?;
-    check.add_birth(birth_of(stands.first))?;
-    check.add_birth(birth_of(stands.second))?;
-    check.add_points(dice, birth_of(stands.first), last, count)?;
-    check.add_points(dice, birth_of(stands.second), last, count)?;
-    check.add_command("!scn off\n")?;
-    check.add_newest()?;
-    check.add_rebuilding()?;
-    check.add_newest()?;
-    Ok(check)
+    match check.fill(dice, last, count) {
+        Ok(()) => Ok(check),
+        Err(failed) => {
+            drop(check);
+            Err(failed)
+        }
+    }
 }
 
 /// Whether the first answer has exactly the newest rows.

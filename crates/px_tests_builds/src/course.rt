@@ -114,6 +114,20 @@ fn found_on(alloc: Global, disk: &mut MemDisk) -> Result<Found, Wrong> {
 }
 
 impl Course {
+    /// Adds what the run wrote that made the table.
+    fn begin(&mut self, alloc: Global, ran: &Ran<MemDisk>) -> Result<(), AllocError> {
+        add_files(ran.disk.calls_made(), &mut self.files)?;
+        add_written(alloc, &ran.trail, &mut self.versions)?;
+        settle(&mut self.versions);
+        self.settled = self.versions.len();
+        let tables = tables_made(alloc, &ran.trail)?;
+        self.table = match tables.as_slice() {
+            [table, ..] => *table,
+            _ => 0,
+        };
+        Ok(())
+    }
+
     /// Counts the right answers of a session beside others. Whether none is wrong.
     fn count_looks(
         &mut self,
@@ -386,22 +400,11 @@ fn begun(
     rows: u32,
     making: Making,
 ) -> Result<Course, AllocError> {
-    let mut files = Vec::new(alloc);
-    add_files(ran.disk.calls_made(), &mut files)?;
-    let mut versions = Vec::new(alloc);
-    add_written(alloc, &ran.trail, &mut versions)?;
-    settle(&mut versions);
-    let settled = versions.len();
-    let tables = tables_made(alloc, &ran.trail)?;
-    let table = match tables.as_slice() {
-        [table, ..] => *table,
-        _ => 0,
-    };
-    Ok(Course {
-        table,
-        versions,
-        settled,
-        files,
+    let mut course = Course {
+        table: 0,
+        versions: Vec::new(alloc),
+        settled: 0,
+        files: Vec::new(alloc),
         stands: NONE,
         last: last_stamp(&ran.trail),
         row_files: 0,
@@ -410,7 +413,14 @@ fn begun(
         calls: making.calls,
         keys: rows.saturating_add(20),
         tally: NOTHING,
-    })
+    };
+    match course.begin(alloc, ran) {
+        Ok(()) => Ok(course),
+        Err(failed) => {
+            drop(course);
+            Err(failed)
+        }
+    }
 }
 
 /// The same, opened once.

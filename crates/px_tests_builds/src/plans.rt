@@ -149,20 +149,30 @@ fn add_statement(
     Ok(())
 }
 
+/// Adds rows of the first so many keys.
+fn add_rows(text: &mut String, dice: &mut Dice, rows: u32) -> Result<(), AllocError> {
+    for row in 0..rows {
+        let mut digits = itoa::Buffer::new();
+        text.push_str("UPSERT INTO T VALUES (")?;
+        text.push_str(digits.format(row.saturating_add(1)))?;
+        add_statement(text, dice, rows, ", $, %);\n")?;
+    }
+    text.push_str("!commit\n!flush\n")
+}
+
 /// The text that makes a table with rows of the first so many keys.
 pub fn set_up(alloc: Global, dice: &mut Dice, rows: u32) -> Result<String, AllocError> {
     let mut text = String::from_str(
         alloc,
         "CREATE TABLE T (ID BIGINT NOT NULL PRIMARY KEY, A VARCHAR, B INTEGER);\n!autocommit off\n",
     )?;
-    for row in 0..rows {
-        let mut digits = itoa::Buffer::new();
-        text.push_str("UPSERT INTO T VALUES (")?;
-        text.push_str(digits.format(row.saturating_add(1)))?;
-        add_statement(&mut text, dice, rows, ", $, %);\n")?;
+    match add_rows(&mut text, dice, rows) {
+        Ok(()) => Ok(text),
+        Err(failed) => {
+            drop(text);
+            Err(failed)
+        }
     }
-    text.push_str("!commit\n!flush\n")?;
-    Ok(text)
 }
 
 /// So many of some statements.
@@ -269,21 +279,80 @@ fn add_session(texts: &mut Vec<SessionText>, session: u32, text: String) -> Resu
     Ok(())
 }
 
-/// The texts of the sessions that change rows, indexes and files.
-fn changes(alloc: Global, dice: &mut Dice, keys: u32) -> Result<Vec<SessionText>, AllocError> {
-    let mut texts = Vec::new(alloc);
+/// Adds the texts of the sessions that write.
+fn add_writers(
+    texts: &mut Vec<SessionText>,
+    alloc: Global,
+    dice: &mut Dice,
+    keys: u32,
+) -> Result<(), AllocError> {
     for place in 0..WRITERS {
         let count = dice.below(6).saturating_add(4);
         let text = statements(alloc, dice, keys, &CHANGES, count)?;
-        add_session(&mut texts, place.saturating_add(1), text)?;
+        add_session(texts, place.saturating_add(1), text)?;
     }
+    Ok(())
+}
+
+/// Adds the texts of the sessions that change rows, indexes and files.
+fn add_changes(
+    texts: &mut Vec<SessionText>,
+    alloc: Global,
+    dice: &mut Dice,
+    keys: u32,
+) -> Result<(), AllocError> {
+    add_writers(texts, alloc, dice, keys)?;
     let first = definitions(alloc, dice, MADE[0], &FIRST)?;
-    add_session(&mut texts, 4, first)?;
+    add_session(texts, 4, first)?;
     let second = definitions(alloc, dice, MADE[1], &SECOND)?;
-    add_session(&mut texts, 5, second)?;
+    add_session(texts, 5, second)?;
     let flushes = statements(alloc, dice, keys, &FLUSHES, 5)?;
-    add_session(&mut texts, FLUSHER, flushes)?;
-    Ok(texts)
+    add_session(texts, FLUSHER, flushes)
+}
+
+/// Adds the texts of all sessions, and by which paths the one asks that only reads.
+fn add_all(
+    texts: &mut Vec<SessionText>,
+    alloc: Global,
+    dice: &mut Dice,
+    keys: u32,
+    last: u64,
+    asked: &mut Vec<By>,
+) -> Result<(), AllocError> {
+    add_changes(texts, alloc, dice, keys)?;
+    let text = looks(alloc, dice, last, asked, 6)?;
+    add_session(texts, LOOKER, text)
+}
+
+/// A script of one round.
+fn one_round(alloc: Global, texts: Vec<SessionText>) -> Result<Script, AllocError> {
+    let mut rounds = Vec::new(alloc);
+    match rounds.push(Items::of(texts)) {
+        Ok(()) => Ok(Items::of(rounds)),
+        Err(failed) => {
+            drop(failed);
+            drop(rounds);
+            Err(AllocError)
+        }
+    }
+}
+
+/// The texts of all sessions. Fills by which paths the one asks that only reads.
+fn script_of(
+    alloc: Global,
+    dice: &mut Dice,
+    keys: u32,
+    last: u64,
+    asked: &mut Vec<By>,
+) -> Result<Script, AllocError> {
+    let mut texts = Vec::new(alloc);
+    match add_all(&mut texts, alloc, dice, keys, last, asked) {
+        Ok(()) => one_round(alloc, texts),
+        Err(failed) => {
+            drop(texts);
+            Err(failed)
+        }
+    }
 }
 
 /// A plan of so many turns, for rows of so many keys and stamps behind the last one.
@@ -295,15 +364,23 @@ pub fn planned(
     count: u32,
 ) -> Result<Plan, AllocError> {
     let mut asked = Vec::new(alloc);
-    let mut texts = changes(alloc, dice, keys)?;
-    let text = looks(alloc, dice, last, &mut asked, 6)?;
-    add_session(&mut texts, LOOKER, text)?;
-    let schedule = turns(alloc, dice, count)?;
-    let mut rounds = Vec::new(alloc);
-    rounds.push(Items::of(texts))?;
-    Ok(Plan {
-        script: Items::of(rounds),
-        schedule,
-        asked,
-    })
+    let script = match script_of(alloc, dice, keys, last, &mut asked) {
+        Ok(script) => script,
+        Err(failed) => {
+            drop(asked);
+            return Err(failed);
+        }
+    };
+    match turns(alloc, dice, count) {
+        Ok(schedule) => Ok(Plan {
+            script,
+            schedule,
+            asked,
+        }),
+        Err(failed) => {
+            drop(script);
+            drop(asked);
+            Err(failed)
+        }
+    }
 }

@@ -31,13 +31,29 @@ pub(crate) fn push_word(alloc: Global, cells: &mut Cells, word: &[u8]) -> Result
     }
 }
 
+/// The cells, where all of them were put.
+pub(crate) fn pushed(done: Result<(), AllocError>, cells: Cells) -> Result<Cells, AllocError> {
+    match done {
+        Ok(()) => Ok(cells),
+        Err(fault) => {
+            drop(cells);
+            Err(fault)
+        }
+    }
+}
+
+fn push_words(alloc: Global, cells: &mut Cells, line: &str) -> Result<(), AllocError> {
+    for word in line.split(' ') {
+        push_word(alloc, cells, word.as_bytes())?;
+    }
+    Ok(())
+}
+
 /// The cells of the words of a line, each with its value.
 pub(crate) fn listed(alloc: Global, line: &str) -> Result<Cells, AllocError> {
     let mut cells = Cells::new(alloc);
-    for word in line.split(' ') {
-        push_word(alloc, &mut cells, word.as_bytes())?;
-    }
-    Ok(cells)
+    let done = push_words(alloc, &mut cells, line);
+    pushed(done, cells)
 }
 
 /// Whether the cells have these values, of one byte each.

@@ -3,6 +3,7 @@ use px_flushing::FlushStep;
 use px_outside::{Choice, Disk, MemDisk};
 use px_tests_stops::{Run, all_stop_well, calls_of};
 use std::alloc::Global;
+use std::process::Abort;
 use std::test::Fail;
 
 // The file of two puts at one column, of stamps 1 and 2, which two flushes wrote: the later stamp stands first.
@@ -19,69 +20,111 @@ const MERGED: [u8; 91] = [
 
 #[test]
 fn a_merged_file_has_these_bytes(rt: HostRuntime) -> Result<(), Fail> {
-    let alloc = rt.alloc();
-    let mut disk = MemDisk::new(alloc);
-    let mut parts = opened(alloc, &mut disk).ok_or("not opened")?;
-    put(alloc, &mut disk, &mut parts, 1, 1, 1).ok_or("not put")?;
-    flush(&mut disk, &mut parts).ok_or("not flushed")?;
-    put(alloc, &mut disk, &mut parts, 1, 2, 1).ok_or("not put")?;
-    flush(&mut disk, &mut parts).ok_or("not flushed")?;
-    begin(&mut parts, 2).ok_or("not begun")?;
-    let steps = merge(&mut disk, &mut parts);
+    let mut disk = MemDisk::new(rt.alloc());
+    let Some(mut parts) = opened(rt.alloc(), &mut disk) else {
+        panic!(rt; "not opened")
+    };
+    let merged = merge_two(&rt, rt.alloc(), &mut disk, &mut parts);
+    drop(parts);
+    drop(disk);
+    merged
+}
+
+// Two puts in two files, their merging, and a flush behind it.
+fn merge_two(
+    rt: &impl Abort,
+    alloc: Global,
+    disk: &mut MemDisk,
+    parts: &mut Parts,
+) -> Result<(), Fail> {
+    put(alloc, disk, parts, 1, 1, 1).ok_or("not put")?;
+    flush(disk, parts).ok_or("not flushed")?;
+    put(alloc, disk, parts, 1, 2, 1).ok_or("not put")?;
+    flush(disk, parts).ok_or("not flushed")?;
+    begin(parts, 2).ok_or("not begun")?;
+    let steps = merge(disk, parts);
     assert!(rt; steps == Some(11), "{steps:?}");
-    let file = newest(&parts).ok_or("no file")?;
+    is_as_written(rt, disk, parts)?;
+    // The next flush takes the number of a file that isn't named any more.
+    put(alloc, disk, parts, 2, 3, 1).ok_or("not put")?;
+    flush(disk, parts).ok_or("not flushed")?;
+    let file = newest(parts).ok_or("no file")?;
+    assert!(rt; file.local == 4);
+    let seen = shown(alloc, disk).ok_or("not shown")?;
+    assert!(rt; seen.as_slice() == [12, 11, 23].as_slice());
+    Ok(())
+}
+
+// The merged file has its bytes, and is named alone, by a manifest that counts one compaction.
+fn is_as_written(rt: &impl Abort, disk: &mut MemDisk, parts: &Parts) -> Result<(), Fail> {
+    let file = newest(parts).ok_or("no file")?;
     assert!(rt; file.local == 6 && file.len == 91 && file.cells == 2);
     let mut bytes = [0u8; 91];
     let read = disk.read(4_294_967_302, 0, &mut bytes).ok();
     assert!(rt; read == Some(91) && bytes.as_slice() == MERGED.as_slice());
     assert!(rt; disk.len(4_294_967_302).ok() == Some(91));
-    // It is named alone, by a manifest that counts one compaction.
     assert!(rt; parts.manifest.snapshot().files.len() == 1 && parts.flushing.files().len() == 1);
     assert!(rt;
         parts.manifest.snapshot().compactions == 1 && parts.manifest.snapshot().flushed == 2
     );
-    // The next flush takes the number of a file that isn't named any more.
-    put(alloc, &mut disk, &mut parts, 2, 3, 1).ok_or("not put")?;
-    flush(&mut disk, &mut parts).ok_or("not flushed")?;
-    let file = newest(&parts).ok_or("no file")?;
-    assert!(rt; file.local == 4);
-    let seen = shown(alloc, &mut disk).ok_or("not shown")?;
-    assert!(rt; seen.as_slice() == [12, 11, 23].as_slice());
     Ok(())
 }
 
-// Of several blocks, of the newest files alone, beside a batch: markers stay, and what is hidden is gone.
 #[test]
 fn the_newest_files_are_merged(rt: HostRuntime) -> Result<(), Fail> {
-    let alloc = rt.alloc();
-    let mut disk = MemDisk::new(alloc);
-    let mut parts = opened(alloc, &mut disk).ok_or("not opened")?;
-    put(alloc, &mut disk, &mut parts, 1, 1, 1).ok_or("not put")?;
-    flush(&mut disk, &mut parts).ok_or("not flushed")?;
+    let mut disk = MemDisk::new(rt.alloc());
+    let Some(mut parts) = opened(rt.alloc(), &mut disk) else {
+        panic!(rt; "not opened")
+    };
+    let merged = merge_newest(&rt, rt.alloc(), &mut disk, &mut parts);
+    drop(parts);
+    drop(disk);
+    merged
+}
+
+// Of several blocks, of the newest files alone, beside a batch: markers stay, and what is hidden is gone.
+fn merge_newest(
+    rt: &impl Abort,
+    alloc: Global,
+    disk: &mut MemDisk,
+    parts: &mut Parts,
+) -> Result<(), Fail> {
+    put(alloc, disk, parts, 1, 1, 1).ok_or("not put")?;
+    flush(disk, parts).ok_or("not flushed")?;
     for row in 0..5u8 {
-        put(alloc, &mut disk, &mut parts, row, 2, 9_000).ok_or("not put")?;
+        put(alloc, disk, parts, row, 2, 9_000).ok_or("not put")?;
     }
-    flush(&mut disk, &mut parts).ok_or("not flushed")?;
-    mark(alloc, &mut disk, &mut parts, 2, 3).ok_or("not put")?;
-    put(alloc, &mut disk, &mut parts, 3, 2, 1).ok_or("not put")?;
-    flush(&mut disk, &mut parts).ok_or("not flushed")?;
-    begin(&mut parts, 2).ok_or("not begun")?;
+    flush(disk, parts).ok_or("not flushed")?;
+    mark(alloc, disk, parts, 2, 3).ok_or("not put")?;
+    put(alloc, disk, parts, 3, 2, 1).ok_or("not put")?;
+    flush(disk, parts).ok_or("not flushed")?;
+    begin(parts, 2).ok_or("not begun")?;
     for _ in 0..4 {
-        assert!(rt; step(&mut disk, &mut parts) == Some(FlushStep::More));
+        assert!(rt; step(disk, parts) == Some(FlushStep::More));
     }
-    put(alloc, &mut disk, &mut parts, 4, 4, 1).ok_or("not put")?;
-    merge(&mut disk, &mut parts).ok_or("not merged")?;
-    let file = newest(&parts).ok_or("no file")?;
+    put(alloc, disk, parts, 4, 4, 1).ok_or("not put")?;
+    merge(disk, parts).ok_or("not merged")?;
+    let file = newest(parts).ok_or("no file")?;
     assert!(rt; parts.flushing.files().len() == 2 && file.local == 7 && file.cells == 6);
-    let seen = shown(alloc, &mut disk).ok_or("not shown")?;
+    let seen = shown(alloc, disk).ok_or("not shown")?;
     assert!(rt; seen.as_slice() == [2, 12, 11, 23, 22, 32, 44, 42].as_slice());
-    // A compaction of all, and of more files than there are, of which nothing comes.
-    begin(&mut parts, 2).ok_or("not begun")?;
-    merge(&mut disk, &mut parts).ok_or("not merged")?;
-    begin(&mut parts, 2).ok_or("not begun")?;
+    drop(seen);
+    merge_all(rt, alloc, disk, parts)
+}
+
+// A compaction of all, and of more files than there are, of which nothing comes.
+fn merge_all(
+    rt: &impl Abort,
+    alloc: Global,
+    disk: &mut MemDisk,
+    parts: &mut Parts,
+) -> Result<(), Fail> {
+    begin(parts, 2).ok_or("not begun")?;
+    merge(disk, parts).ok_or("not merged")?;
+    begin(parts, 2).ok_or("not begun")?;
     assert!(rt; parts.flushing.is_idle());
-    flush(&mut disk, &mut parts).ok_or("not flushed")?;
-    let seen = shown(alloc, &mut disk).ok_or("not shown")?;
+    flush(disk, parts).ok_or("not flushed")?;
+    let seen = shown(alloc, disk).ok_or("not shown")?;
     assert!(rt; seen.as_slice() == [2, 12, 11, 23, 22, 32, 44, 42].as_slice());
     Ok(())
 }
@@ -129,17 +172,22 @@ fn rows_shown(alloc: Global, image: &mut MemDisk) -> Option<u64> {
     if right { Some(count as u64) } else { None }
 }
 
+// Whether all files that are named could be merged, and the log flushed.
+fn merges_all(image: &mut MemDisk, parts: &mut Parts) -> bool {
+    let count = parts.flushing.files().len();
+    let merged = count == 0 || begin(parts, count).is_some() && merge(image, parts).is_some();
+    let flushed = flush(image, parts).is_some();
+    merged && flushed
+}
+
 // Whether a compaction of all files that an image names, and a flush, leave it as it is.
 fn goes_on(alloc: Global, image: &mut MemDisk) -> Option<bool> {
     let before = rows_shown(alloc, image)?;
     let mut parts = opened(alloc, image)?;
-    let count = parts.flushing.files().len();
-    let merged = count == 0
-        || begin(&mut parts, count).is_some() && merge(image, &mut parts).is_some();
-    let flushed = flush(image, &mut parts).is_some();
+    let merged = merges_all(image, &mut parts);
     drop(parts);
     let after = rows_shown(alloc, image)?;
-    Some(merged && flushed && before == after)
+    Some(merged && before == after)
 }
 
 /// Four rows in four files.

@@ -1,6 +1,7 @@
 use crate::pieces::{Parts, begin_forgetting, flush, forget, mark, opened, put, shown, step};
 use px_outside::{Choice, MemDisk};
 use std::alloc::Global;
+use std::process::Abort;
 use std::test::Fail;
 
 // Two rows in three files: the first has puts of the stamps 1, 2 and 4, the second a put of stamp 1 and a marker of stamp 3 that hides it.
@@ -18,50 +19,89 @@ fn fill(alloc: Global, disk: &mut MemDisk, parts: &mut Parts) -> Option<()> {
 
 #[test]
 fn what_no_point_sees_is_forgotten(rt: HostRuntime) -> Result<(), Fail> {
-    let alloc = rt.alloc();
-    let mut disk = MemDisk::new(alloc);
-    let mut parts = opened(alloc, &mut disk).ok_or("not opened")?;
-    fill(alloc, &mut disk, &mut parts).ok_or("not filled")?;
-    let seen = shown(alloc, &mut disk).ok_or("not shown")?;
+    let mut disk = MemDisk::new(rt.alloc());
+    let Some(mut parts) = opened(rt.alloc(), &mut disk) else {
+        panic!(rt; "not opened")
+    };
+    let forgotten = forget_below(&rt, rt.alloc(), &mut disk, &mut parts);
+    drop(parts);
+    drop(disk);
+    forgotten
+}
+
+fn forget_below(
+    rt: &impl Abort,
+    alloc: Global,
+    disk: &mut MemDisk,
+    parts: &mut Parts,
+) -> Result<(), Fail> {
+    fill(alloc, disk, parts).ok_or("not filled")?;
+    let seen = shown(alloc, disk).ok_or("not shown")?;
     assert!(rt; seen.as_slice() == [14, 12, 11, 23, 21].as_slice());
-    begin_forgetting(&mut parts, 3).ok_or("not begun")?;
+    drop(seen);
+    begin_forgetting(parts, 3).ok_or("not begun")?;
     for _ in 0..4 {
-        step(&mut disk, &mut parts).ok_or("no step")?;
+        step(disk, parts).ok_or("no step")?;
     }
-    put(alloc, &mut disk, &mut parts, 1, 5, 1).ok_or("not put")?;
-    assert!(rt; forget(&mut disk, &mut parts) == Some(3));
+    put(alloc, disk, parts, 1, 5, 1).ok_or("not put")?;
+    assert!(rt; forget(disk, parts) == Some(3));
     assert!(rt;
         parts.manifest.snapshot().horizon == 3 && parts.manifest.snapshot().files.len() == 1
     );
-    let seen = shown(alloc, &mut disk).ok_or("not shown")?;
+    let seen = shown(alloc, disk).ok_or("not shown")?;
     assert!(rt; seen.as_slice() == [15, 14, 12].as_slice());
-    // A later horizon keeps the newest alone, and an earlier one isn't named any more.
-    flush(&mut disk, &mut parts).ok_or("not flushed")?;
-    begin_forgetting(&mut parts, 5).ok_or("not begun")?;
-    assert!(rt; forget(&mut disk, &mut parts) == Some(5));
-    let seen = shown(alloc, &mut disk).ok_or("not shown")?;
+    drop(seen);
+    forget_again(rt, alloc, disk, parts)
+}
+
+// A later horizon keeps the newest alone, and an earlier one isn't named any more.
+fn forget_again(
+    rt: &impl Abort,
+    alloc: Global,
+    disk: &mut MemDisk,
+    parts: &mut Parts,
+) -> Result<(), Fail> {
+    flush(disk, parts).ok_or("not flushed")?;
+    begin_forgetting(parts, 5).ok_or("not begun")?;
+    assert!(rt; forget(disk, parts) == Some(5));
+    let seen = shown(alloc, disk).ok_or("not shown")?;
     assert!(rt; seen.as_slice() == [15].as_slice());
-    begin_forgetting(&mut parts, 4).ok_or("not begun")?;
-    assert!(rt; forget(&mut disk, &mut parts).is_none());
+    drop(seen);
+    begin_forgetting(parts, 4).ok_or("not begun")?;
+    assert!(rt; forget(disk, parts).is_none());
     Ok(())
 }
 
-// A region of which nothing is seen keeps a file without a cell.
 #[test]
 fn a_file_may_be_empty(rt: HostRuntime) -> Result<(), Fail> {
-    let alloc = rt.alloc();
-    let mut disk = MemDisk::new(alloc);
-    let mut parts = opened(alloc, &mut disk).ok_or("not opened")?;
-    put(alloc, &mut disk, &mut parts, 1, 1, 1).ok_or("not put")?;
-    mark(alloc, &mut disk, &mut parts, 1, 2).ok_or("not put")?;
-    flush(&mut disk, &mut parts).ok_or("not flushed")?;
-    begin_forgetting(&mut parts, 2).ok_or("not begun")?;
-    assert!(rt; forget(&mut disk, &mut parts) == Some(2));
-    let seen = shown(alloc, &mut disk).ok_or("not shown")?;
+    let mut disk = MemDisk::new(rt.alloc());
+    let Some(mut parts) = opened(rt.alloc(), &mut disk) else {
+        panic!(rt; "not opened")
+    };
+    let forgotten = forget_everything(&rt, rt.alloc(), &mut disk, &mut parts);
+    drop(parts);
+    drop(disk);
+    forgotten
+}
+
+// A region of which nothing is seen keeps a file without a cell.
+fn forget_everything(
+    rt: &impl Abort,
+    alloc: Global,
+    disk: &mut MemDisk,
+    parts: &mut Parts,
+) -> Result<(), Fail> {
+    put(alloc, disk, parts, 1, 1, 1).ok_or("not put")?;
+    mark(alloc, disk, parts, 1, 2).ok_or("not put")?;
+    flush(disk, parts).ok_or("not flushed")?;
+    begin_forgetting(parts, 2).ok_or("not begun")?;
+    assert!(rt; forget(disk, parts) == Some(2));
+    let seen = shown(alloc, disk).ok_or("not shown")?;
     assert!(rt; seen.is_empty());
-    put(alloc, &mut disk, &mut parts, 1, 3, 1).ok_or("not put")?;
-    flush(&mut disk, &mut parts).ok_or("not flushed")?;
-    let seen = shown(alloc, &mut disk).ok_or("not shown")?;
+    drop(seen);
+    put(alloc, disk, parts, 1, 3, 1).ok_or("not put")?;
+    flush(disk, parts).ok_or("not flushed")?;
+    let seen = shown(alloc, disk).ok_or("not shown")?;
     assert!(rt; seen.as_slice() == [13].as_slice());
     Ok(())
 }
@@ -80,13 +120,18 @@ fn run(alloc: Global, disk: &mut MemDisk) -> Option<()> {
     Some(())
 }
 
+fn fill_in(alloc: Global, disk: &mut MemDisk) -> Option<()> {
+    let mut parts = opened(alloc, disk)?;
+    let filled = fill(alloc, disk, &mut parts);
+    drop(parts);
+    filled
+}
+
 // How many calls it takes until the files are there, and until the end.
 fn calls_of_run(alloc: Global) -> Option<(u64, u64)> {
     let mut disk = MemDisk::new(alloc);
-    let mut parts = opened(alloc, &mut disk)?;
-    let filled = fill(alloc, &mut disk, &mut parts);
+    let filled = fill_in(alloc, &mut disk);
     let first = disk.calls_made().len() as u64;
-    drop(parts);
     drop(disk);
     filled?;
     let mut disk = MemDisk::new(alloc);

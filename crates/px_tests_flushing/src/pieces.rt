@@ -1,8 +1,9 @@
 // What the tests of flushes have together.
 
 use px_cellbytes::read_cells;
-use px_cells::CellKind;
+use px_cells::{Cell, CellKind, Cells};
 use px_cursor::Cursor;
+use px_file::RegionFile;
 use px_flushing::{FlushStep, Flushing};
 use px_gatelog::{Frame, Rolled};
 use px_outside::MemDisk;
@@ -22,36 +23,81 @@ pub struct Parts {
 /// Opens the manifest of region 1, and its next segment where none is open.
 fn manifest_of(alloc: Global, disk: &mut MemDisk) -> Option<Manifest> {
     let mut manifest = Manifest::start(alloc, disk, 1).ok()?;
+    match open_manifest(alloc, disk, &mut manifest) {
+        Some(()) => Some(manifest),
+        None => {
+            drop(manifest);
+            None
+        }
+    }
+}
+
+fn open_manifest(alloc: Global, disk: &mut MemDisk, manifest: &mut Manifest) -> Option<()> {
     for _ in 0..3 {
         if !manifest.is_open() {
             let mut frame = Frame::with_room(alloc, manifest.snapshot().body_len()).ok()?;
-            manifest.roll_step(disk, &mut frame).ok()?;
+            let rolled = manifest.roll_step(disk, &mut frame).is_ok();
+            drop(frame);
+            if !rolled {
+                return None;
+            }
         }
     }
-    Some(manifest)
+    Some(())
 }
 
 /// Opens the log, and its first segment where there is none.
 fn wal_of(alloc: Global, disk: &mut MemDisk, flushed: u64) -> Option<Wal> {
-    let Replayed { mut wal, .. } = Wal::replay(alloc, disk, 1, flushed).ok()?;
+    let Replayed {
+        mut wal,
+        store,
+        cells: _,
+        bytes: _,
+    } = Wal::replay(alloc, disk, 1, flushed).ok()?;
+    drop(store);
+    match open_wal(disk, &mut wal) {
+        Some(()) => Some(wal),
+        None => {
+            drop(wal);
+            None
+        }
+    }
+}
+
+fn open_wal(disk: &mut MemDisk, wal: &mut Wal) -> Option<()> {
     for _ in 0..3 {
         if !wal.is_open() {
             wal.roll_step(disk).ok()?;
         }
     }
-    Some(wal)
+    Some(())
 }
 
 /// Opens region 1.
 pub fn opened(alloc: Global, disk: &mut MemDisk) -> Option<Parts> {
     let manifest = manifest_of(alloc, disk)?;
-    let wal = wal_of(alloc, disk, manifest.snapshot().flushed)?;
-    let flushing = Flushing::open(alloc, disk, 1, &manifest).ok()?;
-    Some(Parts {
-        manifest,
-        wal,
-        flushing,
-    })
+    match wal_of(alloc, disk, manifest.snapshot().flushed) {
+        Some(wal) => opened_over(alloc, disk, manifest, wal),
+        None => {
+            drop(manifest);
+            None
+        }
+    }
+}
+
+fn opened_over(alloc: Global, disk: &mut MemDisk, manifest: Manifest, wal: Wal) -> Option<Parts> {
+    match Flushing::open(alloc, disk, 1, &manifest) {
+        Ok(flushing) => Some(Parts {
+            manifest,
+            wal,
+            flushing,
+        }),
+        Err(_) => {
+            drop(manifest);
+            drop(wal);
+            None
+        }
+    }
 }
 
 /// Writes a batch of one cell.
@@ -69,9 +115,17 @@ fn write(
     if bytes.len() > 1_000_000 || !parts.wal.is_open() {
         return None;
     }
-    let mut frame = Frame::with_room(alloc, 12 + bytes.len() as u64).ok()?;
     let cells = read_cells(alloc, &bytes, 1).ok()?;
-    parts.wal.append(disk, &cells, &mut frame).ok()?;
+    let written = match Frame::with_room(alloc, 12 + bytes.len() as u64) {
+        Ok(mut frame) => {
+            let appended = parts.wal.append(disk, &cells, &mut frame).ok();
+            drop(frame);
+            appended
+        }
+        Err(_) => None,
+    };
+    drop(cells);
+    written?;
     Some(())
 }
 
@@ -187,19 +241,72 @@ pub fn newest(parts: &Parts) -> Option<FileEntry> {
 /// The cells of region 1, as it is read from its files.
 pub fn shown(alloc: Global, disk: &mut MemDisk) -> Option<Vec<u64>> {
     let manifest = Manifest::start(alloc, disk, 1).ok()?;
-    let Replayed { store, .. } = Wal::replay(alloc, disk, 1, manifest.snapshot().flushed).ok()?;
-    let flushing = Flushing::open(alloc, disk, 1, &manifest).ok()?;
-    let unflushed = store.into_cells();
+    let seen = shown_by(alloc, disk, &manifest);
+    drop(manifest);
+    seen
+}
+
+fn shown_by(alloc: Global, disk: &mut MemDisk, manifest: &Manifest) -> Option<Vec<u64>> {
+    let unflushed = unflushed_of(alloc, disk, manifest.snapshot().flushed)?;
+    let seen = match Flushing::open(alloc, disk, 1, manifest) {
+        Ok(flushing) => {
+            let seen = seen_in(alloc, disk, flushing.files(), unflushed.as_slice());
+            drop(flushing);
+            seen
+        }
+        Err(_) => None,
+    };
+    drop(unflushed);
+    seen
+}
+
+/// The cells that only the log has.
+fn unflushed_of(alloc: Global, disk: &mut MemDisk, flushed: u64) -> Option<Cells> {
+    let Replayed {
+        wal,
+        store,
+        cells: _,
+        bytes: _,
+    } = Wal::replay(alloc, disk, 1, flushed).ok()?;
+    drop(wal);
+    Some(store.into_cells())
+}
+
+fn seen_in(
+    alloc: Global,
+    disk: &mut MemDisk,
+    files: &[RegionFile],
+    unflushed: &[Cell],
+) -> Option<Vec<u64>> {
     let mut sources = Vec::new(alloc);
-    sources.push(Source::Slice(unflushed.as_slice())).ok()?;
-    for file in flushing.files() {
+    let seen = match add_sources(alloc, disk, files, unflushed, &mut sources) {
+        Some(()) => given(alloc, disk, &mut sources),
+        None => None,
+    };
+    drop(sources);
+    seen
+}
+
+fn add_sources<'a>(
+    alloc: Global,
+    disk: &mut MemDisk,
+    files: &'a [RegionFile],
+    unflushed: &'a [Cell],
+    to: &mut Vec<Source<'a>>,
+) -> Option<()> {
+    to.push(Source::Slice(unflushed)).ok()?;
+    for file in files {
         let cursor = Cursor::begin(alloc, disk, file, &[], None).ok()?;
-        sources.push(Source::File(cursor)).ok()?;
+        to.push(Source::File(cursor)).ok()?;
     }
+    Some(())
+}
+
+fn given(alloc: Global, disk: &mut MemDisk, sources: &mut [Source<'_>]) -> Option<Vec<u64>> {
     let mut taker = Seen {
         cells: Vec::new(alloc),
     };
     let mut looked = 0;
-    give(alloc, disk, &mut sources, &mut taker, &mut looked).ok()?;
+    give(alloc, disk, sources, &mut taker, &mut looked).ok()?;
     Some(taker.cells)
 }

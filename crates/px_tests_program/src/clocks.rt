@@ -80,6 +80,18 @@ fn stamps_of(outcome: Outcome<MemDisk>) -> Stamped {
     }
 }
 
+/// The words of a run, and the two UPSERTs.
+fn given(alloc: Global) -> Result<(Vec<String>, Vec<u8>), AllocError> {
+    let words = words_of(alloc, "run folder")?;
+    match bytes_of(alloc, TWO) {
+        Ok(bytes) => Ok((words, bytes)),
+        Err(fault) => {
+            drop(words);
+            Err(fault)
+        }
+    }
+}
+
 /// A run of the two UPSERTs.
 fn run_at<R: Threads + Wait + Sync, C: Clock + Drop + Send>(
     rt: &R,
@@ -89,14 +101,22 @@ fn run_at<R: Threads + Wait + Sync, C: Clock + Drop + Send>(
 ) -> Result<Stamped, AllocError>
     requires fresh { (calls_of disk ≡ 0) × (faults_of disk ≡ 0) × (first_fault_of disk ≡ 0) }
 {
-    let words = words_of(alloc, "run folder")?;
-    let mut input = MemSource::of(bytes_of(alloc, TWO)?);
-    let mut printed = MemSink::new(alloc);
-    let outcome = phoenix(rt, alloc, &words, disk, clock, &mut input, &mut printed);
-    drop(words);
-    drop(input);
-    drop(printed);
-    Ok(stamps_of(outcome))
+    match given(alloc) {
+        Ok((words, bytes)) => {
+            let mut input = MemSource::of(bytes);
+            let mut printed = MemSink::new(alloc);
+            let outcome = phoenix(rt, alloc, &words, disk, clock, &mut input, &mut printed);
+            drop(words);
+            drop(input);
+            drop(printed);
+            Ok(stamps_of(outcome))
+        }
+        Err(fault) => {
+            drop(disk);
+            drop(clock);
+            Err(fault)
+        }
+    }
 }
 
 /// Whether two UPSERTs at this clock have these stamps.
@@ -108,7 +128,9 @@ fn are_stamped<R: Threads + Wait + Sync, C: Clock + Drop + Send>(
     second: u64,
 ) -> Result<bool, AllocError> {
     let run = run_at(rt, alloc, MemDisk::new(alloc), clock)?;
-    Ok(run.first == first && run.second == second)
+    let stamped = run.first == first && run.second == second;
+    drop(run);
+    Ok(stamped)
 }
 
 #[test]
@@ -152,7 +174,9 @@ fn runs_back<R: Threads + Wait + Sync>(rt: &R, alloc: Global) -> Result<bool, Al
     let first = run_at(rt, alloc, MemDisk::new(alloc), FixedClock(1_000))?;
     let Stamped { disk, .. } = first;
     let second = run_at(rt, alloc, disk.image(), FixedClock(10))?;
-    Ok(second.first == 1_002 && second.second == 1_003)
+    let stamped = second.first == 1_002 && second.second == 1_003;
+    drop(second);
+    Ok(stamped)
 }
 
 #[test]

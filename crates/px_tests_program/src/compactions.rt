@@ -1,9 +1,10 @@
 // Tables that are compacted, and how long their versions are kept.
-use crate::runs::{Run, disk_of, is_printed, run_again, run_new, run_words};
+use crate::runs::{Run, disk_of, is_printed, prints, run_again, run_new, run_words};
 use crate::stops::stopped;
 use px_outside::{Choice, MemDisk};
 use px_program::Status;
 use std::alloc::{AllocError, Global};
+use std::process::Abort;
 use std::sync::Wait;
 use std::thread::Threads;
 
@@ -61,15 +62,63 @@ fn is_printed_both(
     Ok(is_printed(run, status, &text))
 }
 
+/// The same, and lets go of the run.
+fn prints_both(
+    alloc: Global,
+    run: Run,
+    status: Status,
+    first: &str,
+    second: &str,
+) -> Result<bool, AllocError> {
+    let printed = is_printed_both(alloc, &run, status, first, second);
+    drop(run);
+    printed
+}
+
+/// Stops the test where the run printed otherwise.
+fn expect_both(
+    rt: &impl Abort,
+    alloc: Global,
+    run: &Run,
+    status: Status,
+    told: (&str, &str),
+    name: &str,
+) -> Result<(), AllocError> {
+    assert!(rt;
+        is_printed_both(alloc, run, status, told.0, told.1)?,
+        "{name}"
+    );
+    Ok(())
+}
+
+/// The disk after a run, which printed one text and then another.
+fn disk_behind(
+    rt: &impl Abort,
+    alloc: Global,
+    run: Run,
+    status: Status,
+    told: (&str, &str),
+    name: &str,
+) -> Result<MemDisk, AllocError> {
+    match expect_both(rt, alloc, &run, status, told, name) {
+        Ok(()) => Ok(disk_of(run)),
+        Err(fault) => {
+            drop(run);
+            Err(fault)
+        }
+    }
+}
+
 #[test]
 fn versions_are_kept_for_the_lookback(rt: HostRuntime) -> Result<(), AllocError> {
     let alloc = rt.alloc();
     let below = "scn 3\nE12 scn below horizon 8\nscn 9\n'a', '8'\n1 row selected\n";
-    let run = run_both(&rt, alloc, "run folder --lookback 2", VERSIONS, SEEN)?;
-    assert!(rt; is_printed_both(alloc, &run, Status::Refused, ADDED, below)?);
+    let line = "run folder --lookback 2";
+    let run = run_both(&rt, alloc, line, VERSIONS, SEEN)?;
+    let disk = disk_behind(&rt, alloc, run, Status::Refused, (ADDED, below), line)?;
     // So they are when the folder is opened again, however long they are kept from then on.
-    let run = run_again(&rt, alloc, disk_of(run), SEEN)?;
-    assert!(rt; is_printed(&run, Status::Refused, below));
+    let run = run_again(&rt, alloc, disk, SEEN)?;
+    assert!(rt; prints(run, Status::Refused, below));
     Ok(())
 }
 
@@ -80,7 +129,7 @@ fn versions_are_kept_three_days_where_nothing_is_said(rt: HostRuntime) -> Result
     for line in ["run folder", "run --lookback=259200000 folder"] {
         let run = run_both(&rt, alloc, line, VERSIONS, SEEN)?;
         assert!(rt;
-            is_printed_both(alloc, &run, Status::Done, ADDED, text)?,
+            prints_both(alloc, run, Status::Done, ADDED, text)?,
             "{line}"
         );
     }
@@ -126,9 +175,9 @@ fn rows_that_were_removed_stay_removed(rt: HostRuntime) -> Result<(), AllocError
         ),
     ] {
         let run = run_both(&rt, alloc, line, REMOVED, ASKED)?;
-        assert!(rt; is_printed_both(alloc, &run, status, GONE, text)?, "{line}");
-        let run = run_again(&rt, alloc, disk_of(run), ASKED)?;
-        assert!(rt; is_printed(&run, status, text), "{line}");
+        let disk = disk_behind(&rt, alloc, run, status, (GONE, text), line)?;
+        let run = run_again(&rt, alloc, disk, ASKED)?;
+        assert!(rt; prints(run, status, text), "{line}");
     }
     Ok(())
 }
@@ -138,18 +187,14 @@ fn rows_that_were_removed_stay_removed(rt: HostRuntime) -> Result<(), AllocError
 fn a_compaction_of_nothing_ends(rt: HostRuntime) -> Result<(), AllocError> {
     let alloc = rt.alloc();
     let run = run_new(&rt, alloc, "!compact\n!compact\n")?;
-    assert!(rt; is_printed(&run, Status::Done, "compacted\ncompacted\n"));
-    let run = run_both(
-        &rt,
-        alloc,
-        "run folder --lookback 0",
-        VERSIONS,
-        "!compact\n",
-    )?;
-    assert!(rt; is_printed_both(alloc, &run, Status::Done, ADDED, "compacted\n")?);
-    let run = run_again(&rt, alloc, disk_of(run), "!compact\nSELECT * FROM KV;\n")?;
+    assert!(rt; prints(run, Status::Done, "compacted\ncompacted\n"));
+    let line = "run folder --lookback 0";
+    let run = run_both(&rt, alloc, line, VERSIONS, "!compact\n")?;
+    let told = (ADDED, "compacted\n");
+    let disk = disk_behind(&rt, alloc, run, Status::Done, told, line)?;
+    let run = run_again(&rt, alloc, disk, "!compact\nSELECT * FROM KV;\n")?;
     let text = "compacted\n'a', '10'\n1 row selected\n";
-    assert!(rt; is_printed(&run, Status::Done, text));
+    assert!(rt; prints(run, Status::Done, text));
     Ok(())
 }
 
@@ -170,6 +215,23 @@ fn calls_of<R: Threads + Wait + Sync>(
     Ok(calls)
 }
 
+/// Whether what a stop in that call leaves shows the row, also compacted once more.
+fn leaves_the_row<R: Threads + Wait + Sync>(
+    rt: &R,
+    alloc: Global,
+    call: u64,
+    choice: Choice,
+) -> Result<bool, AllocError> {
+    match stopped(rt, alloc, MemDisk::new(alloc), call, choice, COMPACTED)? {
+        None => Err(AllocError),
+        Some(left) => {
+            let run = run_again(rt, alloc, left, "!compact\nSELECT * FROM KV")?;
+            let text = "compacted\n'a', '2'\n1 row selected\n";
+            Ok(prints(run, Status::Done, text))
+        }
+    }
+}
+
 // Whatever a stop in one of its calls leaves, the last version was acknowledged before.
 #[test]
 fn a_stop_in_a_compaction_leaves_the_row(rt: HostRuntime) -> Result<(), AllocError> {
@@ -179,13 +241,10 @@ fn a_stop_in_a_compaction_leaves_the_row(rt: HostRuntime) -> Result<(), AllocErr
     assert!(rt; before.saturating_add(10) < calls, "{before} {calls}");
     for call in before.saturating_add(1)..calls.saturating_add(1) {
         for choice in [Choice::Old, Choice::New, Choice::Fill(1)] {
-            let disk = MemDisk::new(alloc);
-            let Some(left) = stopped(&rt, alloc, disk, call, choice, COMPACTED)? else {
-                return Err(AllocError);
-            };
-            let run = run_again(&rt, alloc, left, "!compact\nSELECT * FROM KV")?;
-            let text = "compacted\n'a', '2'\n1 row selected\n";
-            assert!(rt; is_printed(&run, Status::Done, text), "{call} {choice:?}");
+            assert!(rt;
+                leaves_the_row(&rt, alloc, call, choice)?,
+                "{call} {choice:?}"
+            );
         }
     }
     Ok(())
@@ -216,6 +275,6 @@ compacted
         MemDisk::new(alloc),
         script,
     )?;
-    assert!(rt; is_printed(&run, Status::Done, text));
+    assert!(rt; prints(run, Status::Done, text));
     Ok(())
 }

@@ -1,5 +1,5 @@
 // Rows are removed, by table and by index, and are there as of earlier stamps.
-use crate::runs::{disk_of, ends_behind, is_printed, run_again, run_new};
+use crate::runs::{disk_of, ends_behind, prints, run_again, run_new};
 use px_program::Status;
 use std::alloc::{AllocError, Global};
 use std::sync::Wait;
@@ -91,15 +91,11 @@ fn removed_rows_stay_removed_in_a_later_run(rt: HostRuntime) {
             .push_str("DELETE FROM ORDERS WHERE CUST = 'al';")
             .is_ok()
     );
-    let Ok(run) = run_new(&rt, alloc, &script) else {
-        panic!(rt; "no memory")
-    };
+    let run = run_new(&rt, alloc, &script).expect(&rt, "no memory");
     let script = "SELECT ID FROM ORDERS; SELECT ID FROM ORDERS WHERE CUST = 'al';
 !scn 6
 SELECT ID FROM ORDERS WHERE CUST = 'al';";
     let text = "1\n4\n2 rows selected\n0 rows selected\nscn 6\n2\n3\n2 rows selected\n";
-    let Ok(again) = run_again(&rt, alloc, disk_of(run), script) else {
-        panic!(rt; "no memory")
-    };
-    assert!(rt; is_printed(&again, Status::Done, text));
+    let again = run_again(&rt, alloc, disk_of(run), script).expect(&rt, "no memory");
+    assert!(rt; prints(again, Status::Done, text));
 }

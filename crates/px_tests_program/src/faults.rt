@@ -1,6 +1,6 @@
 // Runs in which the disk, the input or the output fails.
 use crate::runs::{
-    FIRST_SCRIPT, Run, bytes_of, disk_of, is_printed, run_again, run_between, run_words,
+    FIRST_SCRIPT, Run, bytes_of, disk_of, is_printed, prints, run_again, run_between, run_words,
 };
 use px_outside::{MemDisk, MemSink, MemSource, Numbers};
 use px_program::Status;
@@ -27,11 +27,13 @@ fn ends_so<R: Threads + Wait + Sync>(
     replies: &str,
     left: &str,
 ) -> Result<bool, AllocError> {
-    let disk = MemDisk::new(alloc).fail_at(only(alloc, call)?);
+    let failing = only(alloc, call)?;
+    let disk = MemDisk::new(alloc).fail_at(failing);
     let run = run_words(rt, alloc, "run folder", disk, FIRST_SCRIPT)?;
     let as_said = is_printed(&run, status, replies) && run.entries == entries;
     let next = run_again(rt, alloc, disk_of(run), "SELECT * FROM KV")?;
-    Ok(as_said && is_printed(&next, Status::Done, left))
+    let is_left = prints(next, Status::Done, left);
+    Ok(as_said && is_left)
 }
 
 /// The same, for each call from the first to the last.
@@ -84,7 +86,8 @@ fn run_with_input<R: Threads + Wait + Sync>(
     alloc: Global,
     call: u64,
 ) -> Result<Run, AllocError> {
-    let input = MemSource::of(bytes_of(alloc, FIRST_SCRIPT)?).fail_at(only(alloc, call)?);
+    let failing = only(alloc, call)?;
+    let input = MemSource::of(bytes_of(alloc, FIRST_SCRIPT)?).fail_at(failing);
     run_between(
         rt,
         alloc,
@@ -101,15 +104,18 @@ fn run_with_output<R: Threads + Wait + Sync>(
     alloc: Global,
     call: u64,
 ) -> Result<Run, AllocError> {
-    let disk = MemDisk::new(alloc).fail_at(only(alloc, call)?);
+    let (of_disk, of_output) = (only(alloc, call)?, only(alloc, 1)?);
     let input = MemSource::of(bytes_of(alloc, FIRST_SCRIPT)?);
-    let printed = MemSink::new(alloc).fail_at(only(alloc, 1)?);
+    let disk = MemDisk::new(alloc).fail_at(of_disk);
+    let printed = MemSink::new(alloc).fail_at(of_output);
     run_between(rt, alloc, "run folder", disk, input, printed)
 }
 
 fn is_unrun(run: Run, status: Status) -> bool {
     let printed = is_printed(&run, status, "");
-    printed && run.entries == 0 && run.disk.calls_made().is_empty()
+    let touched_nothing = run.entries == 0 && run.disk.calls_made().is_empty();
+    drop(run);
+    printed && touched_nothing
 }
 
 #[test]
@@ -117,23 +123,15 @@ fn a_failed_input_or_output_is_answered(rt: HostRuntime) {
     let alloc = rt.alloc();
     // The input is read twice: the script, and its end.
     for call in 1..3 {
-        let Ok(run) = run_with_input(&rt, alloc, call) else {
-            panic!(rt; "no memory")
-        };
+        let run = run_with_input(&rt, alloc, call).expect(&rt, "no memory");
         assert!(rt; is_unrun(run, Status::SourceFault));
     }
     // The output is written once, behind all statements. Its fault goes before one of the disk.
     for call in 34..39 {
-        let Ok(run) = run_with_output(&rt, alloc, call) else {
-            panic!(rt; "no memory")
-        };
-        assert!(rt; is_printed(&run, Status::SinkFault, ""));
+        let run = run_with_output(&rt, alloc, call).expect(&rt, "no memory");
+        assert!(rt; prints(run, Status::SinkFault, ""));
     }
-    let Ok(run) = run_with_output(&rt, alloc, 38) else {
-        panic!(rt; "no memory")
-    };
-    let Ok(next) = run_again(&rt, alloc, disk_of(run), "SELECT * FROM KV") else {
-        panic!(rt; "no memory")
-    };
-    assert!(rt; is_printed(&next, Status::Done, ITS_ROW));
+    let run = run_with_output(&rt, alloc, 38).expect(&rt, "no memory");
+    let next = run_again(&rt, alloc, disk_of(run), "SELECT * FROM KV").expect(&rt, "no memory");
+    assert!(rt; prints(next, Status::Done, ITS_ROW));
 }

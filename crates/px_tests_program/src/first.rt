@@ -1,11 +1,13 @@
 // The first runs: their rows, their file, and words that are no command.
+use crate::expected::expect_printed;
 use crate::runs::{
-    FIRST_SCRIPT, FIRST_SEGMENT, bytes_of, disk_of, is_printed, run_again, run_new, run_words,
-    words_of,
+    FIRST_SCRIPT, FIRST_SEGMENT, Run, bytes_of, disk_of, is_printed, prints, run_again, run_new,
+    run_words, words_of,
 };
 use px_outside::{Disk, MemDisk};
 use px_program::{Status, folder_disk};
 use std::alloc::{AllocError, Global};
+use std::process::Abort;
 use std::sync::Wait;
 use std::thread::Threads;
 
@@ -21,46 +23,48 @@ fn has_file(disk: &mut MemDisk, bytes: &[u8]) -> bool {
     len == 68 && n == 68 && front.as_slice() == bytes
 }
 
+/// Stops the test where the first run printed otherwise, or did more or less.
+fn expect_first(rt: &impl Abort, run: &Run, text: &str) {
+    assert!(rt; is_printed(run, Status::Done, text));
+    assert_eq!(rt; run.entries, 7);
+}
+
+/// Stops the test where the file is another one.
+fn expect_file(rt: &impl Abort, disk: &mut MemDisk) {
+    assert!(rt; has_file(disk, &FIRST_SEGMENT));
+}
+
 #[test]
 fn the_first_run_prints_its_row_and_leaves_its_file(rt: HostRuntime) {
     let alloc = rt.alloc();
-    let Ok(run) = run_new(&rt, alloc, FIRST_SCRIPT) else {
-        panic!(rt; "no memory")
-    };
+    let run = run_new(&rt, alloc, FIRST_SCRIPT).expect(&rt, "no memory");
     let text = "1 row affected\n'a', 'b'\n1 row selected\n";
-    assert!(rt; is_printed(&run, Status::Done, text));
-    assert_eq!(rt; run.entries, 7);
+    expect_first(&rt, &run, text);
     let mut disk = disk_of(run);
-    assert!(rt; has_file(&mut disk, &FIRST_SEGMENT));
-    let Ok(again) = run_again(&rt, alloc, disk, FIRST_SCRIPT) else {
-        panic!(rt; "no memory")
-    };
-    assert!(rt; is_printed(&again, Status::Done, text));
+    expect_file(&rt, &mut disk);
+    let again = run_again(&rt, alloc, disk, FIRST_SCRIPT).expect(&rt, "no memory");
+    assert!(rt; prints(again, Status::Done, text));
 }
 
 #[test]
 fn an_empty_script_prints_nothing(rt: HostRuntime) {
-    let Ok(run) = run_new(&rt, rt.alloc(), "") else {
-        panic!(rt; "no memory")
-    };
-    assert!(rt; is_printed(&run, Status::Done, ""));
-    assert_eq!(rt; run.entries, 0);
+    let run = run_new(&rt, rt.alloc(), "").expect(&rt, "no memory");
+    let entries = run.entries;
+    assert!(rt; prints(run, Status::Done, ""));
+    assert_eq!(rt; entries, 0);
 }
 
 #[test]
 fn rows_are_kept_in_key_order_over_runs(rt: HostRuntime) {
     let alloc = rt.alloc();
     let first = "UPSERT INTO KV VALUES ('b','1');\nUPSERT INTO KV VALUES ('a','2');";
-    let Ok(run) = run_new(&rt, alloc, first) else {
-        panic!(rt; "no memory")
-    };
-    assert!(rt; is_printed(&run, Status::Done, "1 row affected\n1 row affected\n"));
+    let run = run_new(&rt, alloc, first).expect(&rt, "no memory");
+    let text = "1 row affected\n1 row affected\n";
+    expect_printed(&rt, &run, Status::Done, text, "the first run");
     let then = "UPSERT INTO KV VALUES ('b','3'); SELECT * FROM KV";
-    let Ok(again) = run_again(&rt, alloc, disk_of(run), then) else {
-        panic!(rt; "no memory")
-    };
+    let again = run_again(&rt, alloc, disk_of(run), then).expect(&rt, "no memory");
     let text = "1 row affected\n'a', '2'\n'b', '3'\n2 rows selected\n";
-    assert!(rt; is_printed(&again, Status::Done, text));
+    assert!(rt; prints(again, Status::Done, text));
 }
 
 #[test]
@@ -84,12 +88,18 @@ fn bad_words_touch_nothing(rt: HostRuntime) {
         "verify d --table T --index I",
         "run d --table T",
     ] {
-        let Ok(run) = run_words(&rt, alloc, line, MemDisk::new(alloc), FIRST_SCRIPT) else {
-            panic!(rt; "no memory")
-        };
-        assert!(rt; is_printed(&run, Status::BadWords, ""));
-        assert!(rt; run.disk.calls_made().is_empty());
+        let disk = MemDisk::new(alloc);
+        let run = run_words(&rt, alloc, line, disk, FIRST_SCRIPT).expect(&rt, "no memory");
+        let is_untouched = run.disk.calls_made().is_empty();
+        assert!(rt; prints(run, Status::BadWords, ""));
+        assert!(rt; is_untouched);
     }
+}
+
+/// Writes these bytes into a file, and syncs it.
+fn write_synced(rt: &impl Abort, disk: &mut MemDisk, file: u64, at: u64, bytes: &[u8]) {
+    assert!(rt; disk.write(file, at, bytes).is_ok());
+    assert!(rt; disk.sync(file).is_ok());
 }
 
 #[test]
@@ -98,28 +108,24 @@ fn a_damaged_log_is_refused_at_its_place(rt: HostRuntime) {
     let mut disk = MemDisk::new(alloc);
     let mut bytes = FIRST_SEGMENT;
     bytes[17] = 3;
-    assert!(rt; disk.write(4_294_967_296, 0, &bytes).is_ok());
-    assert!(rt; disk.sync(4_294_967_296).is_ok());
-    let Ok(run) = run_again(&rt, alloc, disk, FIRST_SCRIPT) else {
-        panic!(rt; "no memory")
-    };
+    write_synced(&rt, &mut disk, 4_294_967_296, 0, &bytes);
+    let run = run_again(&rt, alloc, disk, FIRST_SCRIPT).expect(&rt, "no memory");
     let status = Status::Damaged {
         file: 4_294_967_296,
         place: 17,
     };
-    assert!(rt; is_printed(&run, status, ""));
+    assert!(rt; prints(run, status, ""));
 }
 
 #[test]
 fn a_folder_without_a_catalogue_has_its_row(rt: HostRuntime) -> Result<(), AllocError> {
     let alloc = rt.alloc();
     let mut disk = MemDisk::new(alloc);
-    assert!(rt; disk.write(4_294_967_296, 0, &FIRST_SEGMENT).is_ok());
-    assert!(rt; disk.sync(4_294_967_296).is_ok());
+    write_synced(&rt, &mut disk, 4_294_967_296, 0, &FIRST_SEGMENT);
     let script = "SELECT * FROM KV; UPSERT INTO KV VALUES ('b','c'); SELECT * FROM KV;";
     let run = run_again(&rt, alloc, disk, script)?;
     let text = "'a', 'b'\n1 row selected\n1 row affected\n'a', 'b'\n'b', 'c'\n2 rows selected\n";
-    assert!(rt; is_printed(&run, Status::Done, text));
+    assert!(rt; prints(run, Status::Done, text));
     Ok(())
 }
 
@@ -128,22 +134,18 @@ fn a_damaged_manifest_is_refused_at_its_place(rt: HostRuntime) -> Result<(), All
     let alloc = rt.alloc();
     let script = "UPSERT INTO KV VALUES ('a','b'); SELECT * FROM KV;\n!flush\n";
     let flushed = run_new(&rt, alloc, script)?;
-    assert!(rt;
-        is_printed(
-            &flushed,
-            Status::Done,
-            "1 row affected\n'a', 'b'\n1 row selected\nflushed\n"
-        )
-    );
+    let text = "1 row affected\n'a', 'b'\n1 row selected\nflushed\n";
+    expect_printed(&rt, &flushed, Status::Done, text, "flushed");
     let mut disk = disk_of(flushed).image();
-    assert!(rt; disk.write(4_294_967_298, 17, &[7]).is_ok());
-    assert!(rt; disk.sync(4_294_967_298).is_ok());
+    write_synced(&rt, &mut disk, 4_294_967_298, 17, &[7]);
     let run = run_again(&rt, alloc, disk, FIRST_SCRIPT)?;
     let status = Status::Damaged {
         file: 4_294_967_298,
         place: 17,
     };
-    assert!(rt; is_printed(&run, status, "") && run.entries == 0);
+    let entries = run.entries;
+    let printed = prints(run, status, "");
+    assert!(rt; printed && entries == 0);
     Ok(())
 }
 
@@ -184,13 +186,14 @@ fn long_replies(alloc: Global) -> Result<Vec<u8>, AllocError> {
 
 /// Whether the long row is read from its file, and no stamp is left behind it.
 fn reads_the_long_row<R: Threads + Wait + Sync>(rt: &R, alloc: Global) -> Result<bool, AllocError> {
+    let (bytes, replies) = (long_segment(alloc)?, long_replies(alloc)?);
     let mut disk = MemDisk::new(alloc);
-    let bytes = long_segment(alloc)?;
     let written = disk.write(4_294_967_296, 0, &bytes).is_ok() && disk.sync(4_294_967_296).is_ok();
     let script = "SELECT * FROM KV; UPSERT INTO KV VALUES ('a','b')";
     let run = run_again(rt, alloc, disk, script)?;
-    let replies = long_replies(alloc)?;
-    Ok(written && run.status == Status::Refused && run.printed.held() == replies.as_slice())
+    let is_told = run.status == Status::Refused && run.printed.held() == replies.as_slice();
+    drop(run);
+    Ok(written && is_told)
 }
 
 #[test]
@@ -202,13 +205,17 @@ fn a_row_at_its_limits_is_read(rt: HostRuntime) {
 fn the_words_of_a_command_name_a_disk(rt: HostRuntime) {
     let alloc = rt.alloc();
     for (line, is_named) in [("run folder", true), ("run", false), ("run -d", false)] {
-        let Ok(words) = words_of(alloc, line) else {
-            panic!(rt; "no memory")
+        let words = words_of(alloc, line).expect(&rt, "no memory");
+        let is_some = match folder_disk(&rt, alloc, &words) {
+            Ok(disk) => {
+                let is_some = disk.is_some();
+                drop(disk);
+                is_some
+            }
+            Err(_) => panic!(rt; "no memory"),
         };
-        let Ok(disk) = folder_disk(&rt, alloc, &words) else {
-            panic!(rt; "no memory")
-        };
-        assert_eq!(rt; disk.is_some(), is_named);
+        drop(words);
+        assert_eq!(rt; is_some, is_named);
     }
 }
 

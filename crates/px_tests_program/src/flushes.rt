@@ -1,9 +1,11 @@
 // Tables whose logs are flushed.
-use crate::runs::{disk_of, is_printed, run_again, run_new};
+use crate::expected::expect_printed;
+use crate::runs::{Run, disk_of, is_printed, prints, run_again, run_new};
 use crate::stops::stopped;
 use px_outside::{Choice, Disk, MemDisk};
 use px_program::Status;
 use std::alloc::{AllocError, Global};
+use std::process::Abort;
 use std::sync::Wait;
 use std::thread::Threads;
 
@@ -48,6 +50,12 @@ fn told(alloc: Global, rows: u32) -> Result<String, AllocError> {
     Ok(text)
 }
 
+/// Whether a run tells all rows of nine batches and no other, or of eight where the last may lack.
+fn tells(alloc: Global, run: &Run, may_lack: bool) -> Result<bool, AllocError> {
+    let (eight, nine) = (told(alloc, 8000)?, told(alloc, 9000)?);
+    Ok(is_printed(run, Status::Done, &nine) || may_lack && is_printed(run, Status::Done, &eight))
+}
+
 /// Whether a disk shows all rows of nine batches and no other, or of eight where the last may lack.
 fn shows<R: Threads + Wait + Sync>(
     rt: &R,
@@ -56,8 +64,9 @@ fn shows<R: Threads + Wait + Sync>(
     may_lack: bool,
 ) -> Result<bool, AllocError> {
     let run = run_again(rt, alloc, disk, "SELECT K FROM KV;\n")?;
-    let (eight, nine) = (told(alloc, 8000)?, told(alloc, 9000)?);
-    Ok(is_printed(&run, Status::Done, &nine) || may_lack && is_printed(&run, Status::Done, &eight))
+    let shown = tells(alloc, &run, may_lack);
+    drop(run);
+    shown
 }
 
 /// A run of the script on an empty folder: the calls it made, and the disk.
@@ -71,6 +80,11 @@ fn filled<R: Threads + Wait + Sync>(
     Ok((calls, disk_of(run)))
 }
 
+/// Stops the test where the file is shorter than 300,000 bytes.
+fn expect_long(rt: &impl Abort, len: u64) {
+    assert!(rt; len > 300_000, "{len}");
+}
+
 // The ninth batch would pass 16,384 cells, so those before it go to a file.
 #[test]
 fn a_full_log_goes_to_a_file(rt: HostRuntime) -> Result<(), AllocError> {
@@ -78,7 +92,7 @@ fn a_full_log_goes_to_a_file(rt: HostRuntime) -> Result<(), AllocError> {
     let script = filling(alloc, 9000)?;
     let (_calls, mut disk) = filled(&rt, alloc, &script)?;
     let len = disk.len(FIRST_FILE).unwrap_or(0);
-    assert!(rt; len > 300_000, "{len}");
+    expect_long(&rt, len);
     assert!(rt; shows(&rt, alloc, disk, false)?);
     Ok(())
 }
@@ -91,10 +105,10 @@ fn keeps<R: Threads + Wait + Sync>(
     choice: Choice,
     script: &str,
 ) -> Result<bool, AllocError> {
-    let Some(left) = stopped(rt, alloc, MemDisk::new(alloc), call, choice, script)? else {
-        return Ok(false);
-    };
-    shows(rt, alloc, left, true)
+    match stopped(rt, alloc, MemDisk::new(alloc), call, choice, script)? {
+        None => Ok(false),
+        Some(left) => shows(rt, alloc, left, true),
+    }
 }
 
 /// How many calls a run of so many rows makes.
@@ -135,18 +149,28 @@ const ROW: &str = "UPSERT INTO KV VALUES ('a','1');\n";
 
 const FLUSHED: &str = "UPSERT INTO KV VALUES ('a','1');\n!flush\n";
 
+/// Stops the test where the first file of cells is empty.
+fn expect_cells(rt: &impl Abort, disk: &mut MemDisk) {
+    assert!(rt; disk.len(FIRST_FILE).unwrap_or(0) > 0);
+}
+
 #[test]
 fn what_is_flushed_stands_in_a_file(rt: HostRuntime) -> Result<(), AllocError> {
     let alloc = rt.alloc();
     let run = run_new(&rt, alloc, FLUSHED)?;
     let text = "1 row affected\nflushed\n";
-    assert!(rt; is_printed(&run, Status::Done, text));
+    expect_printed(&rt, &run, Status::Done, text, "the first run");
     let mut disk = disk_of(run);
-    assert!(rt; disk.len(FIRST_FILE).unwrap_or(0) > 0);
+    expect_cells(&rt, &mut disk);
     let run = run_again(&rt, alloc, disk, "!flush\nSELECT * FROM KV;\n")?;
     let text = "flushed\n'a', '1'\n1 row selected\n";
-    assert!(rt; is_printed(&run, Status::Done, text));
+    assert!(rt; prints(run, Status::Done, text));
     Ok(())
+}
+
+/// Gives the manifest's first record a kind that isn't one.
+fn damage_manifest(rt: &impl Abort, disk: &mut MemDisk) {
+    assert!(rt; disk.write(MANIFEST, 17, &[7]).is_ok() && disk.sync(MANIFEST).is_ok());
 }
 
 #[test]
@@ -155,17 +179,35 @@ fn a_damaged_manifest_is_refused_at_its_place(rt: HostRuntime) -> Result<(), All
     let script = "UPSERT INTO KV VALUES ('a','b'); SELECT * FROM KV;\n!flush\n";
     let run = run_new(&rt, alloc, script)?;
     let text = "1 row affected\n'a', 'b'\n1 row selected\nflushed\n";
-    assert!(rt; is_printed(&run, Status::Done, text));
+    expect_printed(&rt, &run, Status::Done, text, "the first run");
     let mut disk = disk_of(run);
-    // The kind of the manifest's first record.
-    assert!(rt; disk.write(MANIFEST, 17, &[7]).is_ok() && disk.sync(MANIFEST).is_ok());
+    damage_manifest(&rt, &mut disk);
     let run = run_again(&rt, alloc, disk, "SELECT * FROM KV")?;
     let status = Status::Damaged {
         file: MANIFEST,
         place: 17,
     };
-    assert!(rt; is_printed(&run, status, "") && run.entries == 0);
+    let entries = run.entries;
+    let printed = prints(run, status, "");
+    assert!(rt; printed && entries == 0);
     Ok(())
+}
+
+/// Whether what a stop in that call leaves shows the row, also flushed once more.
+fn leaves_the_row<R: Threads + Wait + Sync>(
+    rt: &R,
+    alloc: Global,
+    call: u64,
+    choice: Choice,
+) -> Result<bool, AllocError> {
+    match stopped(rt, alloc, MemDisk::new(alloc), call, choice, FLUSHED)? {
+        None => Err(AllocError),
+        Some(left) => {
+            let run = run_again(rt, alloc, left, "!flush\nSELECT * FROM KV")?;
+            let text = "flushed\n'a', '1'\n1 row selected\n";
+            Ok(prints(run, Status::Done, text))
+        }
+    }
 }
 
 // Whatever a stop in one of its calls leaves, the row was acknowledged before.
@@ -179,12 +221,10 @@ fn a_stop_in_an_ordered_flush_leaves_the_row(rt: HostRuntime) -> Result<(), Allo
     assert!(rt; before.saturating_add(10) < calls, "{before} {calls}");
     for call in before.saturating_add(1)..calls.saturating_add(1) {
         for choice in [Choice::Old, Choice::New, Choice::Fill(1)] {
-            let Some(left) = stopped(&rt, alloc, MemDisk::new(alloc), call, choice, FLUSHED)? else {
-                return Err(AllocError);
-            };
-            let run = run_again(&rt, alloc, left, "!flush\nSELECT * FROM KV")?;
-            let text = "flushed\n'a', '1'\n1 row selected\n";
-            assert!(rt; is_printed(&run, Status::Done, text), "{call} {choice:?}");
+            assert!(rt;
+                leaves_the_row(&rt, alloc, call, choice)?,
+                "{call} {choice:?}"
+            );
         }
     }
     Ok(())

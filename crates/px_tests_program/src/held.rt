@@ -1,5 +1,5 @@
 // Changes that are held, and commits of them.
-use crate::runs::{bytes_of, disk_of, ends, is_printed, run_again, run_between};
+use crate::runs::{bytes_of, disk_of, ends, is_printed, prints, run_again, run_between};
 use px_outside::{MemDisk, MemSink, MemSource, Numbers};
 use px_program::Status;
 use std::alloc::{AllocError, Global};
@@ -538,16 +538,26 @@ fn push_thousand(script: &mut String, text: &mut String) -> Result<(), AllocErro
 }
 
 /// A thousand rows are held, of which one is changed once more; another row isn't held.
+fn push_changed(script: &mut String, text: &mut String) -> Result<(), AllocError> {
+    push_thousand(script, text)?;
+    push_row(script, ["k", "0", "0"], "v")?;
+    push_row(script, ["9", "9", "9"], "w")?;
+    script.push_str("!commit\nSELECT * FROM KV WHERE K > '998';\nSELECT K FROM KV WHERE V = 'w';")?;
+    text.push_str("E11 limit: ROWS 1000\n1 row held\n1000 rows affected\n")?;
+    text.push_str("'999', 'w'\n1 row selected\n'999'\n1 row selected\n")
+}
+
 fn thousand(alloc: Global) -> Result<(String, String), AllocError> {
     let mut script = String::new(alloc);
     let mut text = String::new(alloc);
-    push_thousand(&mut script, &mut text)?;
-    push_row(&mut script, ["k", "0", "0"], "v")?;
-    push_row(&mut script, ["9", "9", "9"], "w")?;
-    script.push_str("!commit\nSELECT * FROM KV WHERE K > '998';\nSELECT K FROM KV WHERE V = 'w';")?;
-    text.push_str("E11 limit: ROWS 1000\n1 row held\n1000 rows affected\n")?;
-    text.push_str("'999', 'w'\n1 row selected\n'999'\n1 row selected\n")?;
-    Ok((script, text))
+    match push_changed(&mut script, &mut text) {
+        Ok(()) => Ok((script, text)),
+        Err(fault) => {
+            drop(script);
+            drop(text);
+            Err(fault)
+        }
+    }
 }
 
 #[test]
@@ -583,15 +593,26 @@ E11 limit: ROWS 1000
 1 row selected
 ";
 
-fn thousand_removed(alloc: Global) -> Result<(String, String), AllocError> {
-    let mut script = String::new(alloc);
-    let mut text = String::new(alloc);
-    push_thousand(&mut script, &mut text)?;
+fn push_removed(script: &mut String, text: &mut String) -> Result<(), AllocError> {
+    push_thousand(script, text)?;
     if let Some((more, told)) = REMOVED.split_once("=>") {
         script.push_str(more)?;
         text.push_str(told)?;
     }
-    Ok((script, text))
+    Ok(())
+}
+
+fn thousand_removed(alloc: Global) -> Result<(String, String), AllocError> {
+    let mut script = String::new(alloc);
+    let mut text = String::new(alloc);
+    match push_removed(&mut script, &mut text) {
+        Ok(()) => Ok((script, text)),
+        Err(fault) => {
+            drop(script);
+            drop(text);
+            Err(fault)
+        }
+    }
 }
 
 #[test]
@@ -623,12 +644,14 @@ fn fails_so<R: Threads + Wait + Sync>(
     text: &str,
     later: &str,
 ) -> Result<bool, AllocError> {
-    let disk = MemDisk::new(alloc).fail_at(Numbers::of(vec![in alloc; call]?));
+    let failing = Numbers::of(vec![in alloc; call]?);
     let input = MemSource::of(bytes_of(alloc, COMMITTED)?);
+    let disk = MemDisk::new(alloc).fail_at(failing);
     let run = run_between(rt, alloc, "run folder", disk, input, MemSink::new(alloc))?;
     let printed = is_printed(&run, status, text);
     let again = run_again(rt, alloc, disk_of(run), "SELECT * FROM KV;")?;
-    Ok(printed && is_printed(&again, Status::Done, later))
+    let is_there = prints(again, Status::Done, later);
+    Ok(printed && is_there)
 }
 
 #[test]

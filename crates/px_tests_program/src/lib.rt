@@ -10,6 +10,8 @@ mod compactions;
 #[cfg(test)]
 mod deletes;
 #[cfg(test)]
+mod expected;
+#[cfg(test)]
 mod faults;
 #[cfg(test)]
 mod first;

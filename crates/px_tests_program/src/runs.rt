@@ -57,13 +57,24 @@ pub fn bytes_of(alloc: Global, text: &str) -> Result<Vec<u8>, AllocError> {
 /// The words of a line, which are parted by blanks; none of an empty line.
 pub fn words_of(alloc: Global, line: &str) -> Result<Vec<String>, AllocError> {
     let mut words = Vec::new(alloc);
+    match push_words(alloc, line, &mut words) {
+        Ok(()) => Ok(words),
+        Err(fault) => {
+            drop(words);
+            Err(fault)
+        }
+    }
+}
+
+/// Adds the words of a line.
+fn push_words(alloc: Global, line: &str, words: &mut Vec<String>) -> Result<(), AllocError> {
     if line.is_empty() {
-        return Ok(words);
+        return Ok(());
     }
     for word in line.split(' ') {
         words.push(String::from_str(alloc, word)?)?;
     }
-    Ok(words)
+    Ok(())
 }
 
 /// A run of these words on a disk, between this input and this output.
@@ -77,17 +88,28 @@ pub fn run_between<R: Threads + Wait + Sync>(
 ) -> Result<Run, AllocError>
     requires fresh { (calls_of disk ≡ 0) × (faults_of disk ≡ 0) × (first_fault_of disk ≡ 0) }
 {
-    let words = words_of(alloc, line)?;
-    let outcome = phoenix(
-        rt,
-        alloc,
-        &words,
-        disk,
-        FixedClock(0),
-        &mut input,
-        &mut printed,
-    );
-    Ok(run_of(outcome, printed))
+    match words_of(alloc, line) {
+        Ok(words) => {
+            let outcome = phoenix(
+                rt,
+                alloc,
+                &words,
+                disk,
+                FixedClock(0),
+                &mut input,
+                &mut printed,
+            );
+            drop(words);
+            drop(input);
+            Ok(run_of(outcome, printed))
+        }
+        Err(fault) => {
+            drop(disk);
+            drop(input);
+            drop(printed);
+            Err(fault)
+        }
+    }
 }
 
 pub fn run_words<R: Threads + Wait + Sync>(
@@ -99,8 +121,16 @@ pub fn run_words<R: Threads + Wait + Sync>(
 ) -> Result<Run, AllocError>
     requires fresh { (calls_of disk ≡ 0) × (faults_of disk ≡ 0) × (first_fault_of disk ≡ 0) }
 {
-    let input = MemSource::of(bytes_of(alloc, script)?);
-    run_between(rt, alloc, line, disk, input, MemSink::new(alloc))
+    match bytes_of(alloc, script) {
+        Ok(bytes) => {
+            let input = MemSource::of(bytes);
+            run_between(rt, alloc, line, disk, input, MemSink::new(alloc))
+        }
+        Err(fault) => {
+            drop(disk);
+            Err(fault)
+        }
+    }
 }
 
 /// The disk after a run.
@@ -129,6 +159,13 @@ pub fn is_printed(run: &Run, status: Status, text: &str) -> bool {
     run.status == status && run.printed.held() == text.as_bytes()
 }
 
+/// The same, and lets go of the run.
+pub fn prints(run: Run, status: Status, text: &str) -> bool {
+    let printed = is_printed(&run, status, text);
+    drop(run);
+    printed
+}
+
 /// A run on an empty folder.
 pub fn run_new<R: Threads + Wait + Sync>(
     rt: &R,
@@ -147,7 +184,14 @@ pub fn ends<R: Threads + Wait + Sync>(
     text: &str,
 ) -> Result<bool, AllocError> {
     let run = run_new(rt, alloc, script)?;
-    Ok(is_printed(&run, status, text))
+    Ok(prints(run, status, text))
+}
+
+/// One text behind another.
+pub fn joined(alloc: Global, first: &str, second: &str) -> Result<String, AllocError> {
+    let mut text = String::from_str(alloc, first)?;
+    text.push_str(second)?;
+    Ok(text)
 }
 
 /// Whether these statements, behind those of a set-up and what it prints, end so and print this.
@@ -159,11 +203,7 @@ pub fn ends_behind<R: Threads + Wait + Sync>(
     status: Status,
     text: &str,
 ) -> Result<bool, AllocError> {
-    let (mut script, mut printed) = (
-        String::from_str(alloc, set_up.0)?,
-        String::from_str(alloc, set_up.1)?,
-    );
-    script.push_str(statements)?;
-    printed.push_str(text)?;
+    let script = joined(alloc, set_up.0, statements)?;
+    let printed = joined(alloc, set_up.1, text)?;
     ends(rt, alloc, &script, status, &printed)
 }

@@ -1,5 +1,6 @@
 // Sessions whose steps come by a list, which the words say.
-use crate::runs::{Run, disk_of, is_printed, run_again, run_words};
+use crate::expected::expect_printed;
+use crate::runs::{Run, disk_of, is_printed, prints, run_again, run_words};
 use px_outside::{CallMade, DeviceCall, MemDisk, Numbers};
 use px_program::Status;
 use std::alloc::{AllocError, Global};
@@ -87,9 +88,9 @@ fn steps_come_as_the_words_list_them(rt: HostRuntime) -> Result<(), AllocError> 
         ("--schedule 32,2,9,2,31,3,1", ZED),
         ("--schedule 7", AMY),
     ] {
-        let run = run_by(&rt, alloc, words, CHANGES)?;
         let text = behind(alloc, last)?;
-        assert!(rt; is_printed(&run, Status::Done, &text), "{words}");
+        let run = run_by(&rt, alloc, words, CHANGES)?;
+        assert!(rt; prints(run, Status::Done, &text), "{words}");
     }
     Ok(())
 }
@@ -117,15 +118,16 @@ fn a_list_has_numbers_of_sessions_alone(rt: HostRuntime) -> Result<(), AllocErro
         "--schedule 1 --kind ONLY",
     ] {
         let run = run_by(&rt, alloc, words, CHANGES)?;
-        assert!(rt; is_printed(&run, Status::BadWords, ""), "{words}");
-        assert!(rt; run.disk.calls_made().is_empty());
+        let is_untouched = run.disk.calls_made().is_empty();
+        assert!(rt; prints(run, Status::BadWords, ""), "{words}");
+        assert!(rt; is_untouched);
     }
     for line in [
         "verify d --table KV --index X --kind ONLY --schedule 1",
         "load d --number 0 --rows 1 --schedule 1",
     ] {
         let run = run_words(&rt, alloc, line, MemDisk::new(alloc), "")?;
-        assert!(rt; is_printed(&run, Status::BadWords, ""), "{line}");
+        assert!(rt; prints(run, Status::BadWords, ""), "{line}");
     }
     Ok(())
 }
@@ -142,10 +144,11 @@ fn list_of(alloc: Global, count: u32) -> Result<String, AllocError> {
 #[test]
 fn a_list_names_65535_at_most(rt: HostRuntime) -> Result<(), AllocError> {
     let alloc = rt.alloc();
+    let text = behind(alloc, ZED)?;
     let run = run_by(&rt, alloc, &list_of(alloc, 65_535)?, CHANGES)?;
-    assert!(rt; is_printed(&run, Status::Done, &behind(alloc, ZED)?));
+    assert!(rt; prints(run, Status::Done, &text));
     let run = run_by(&rt, alloc, &list_of(alloc, 65_536)?, CHANGES)?;
-    assert!(rt; is_printed(&run, Status::BadWords, ""));
+    assert!(rt; prints(run, Status::BadWords, ""));
     Ok(())
 }
 
@@ -197,10 +200,23 @@ fn is_whole<R: Threads + Wait + Sync>(
     disk: MemDisk,
 ) -> Result<bool, AllocError> {
     let run = run_again(rt, alloc, disk, "SELECT CUST, AMT FROM ORDERS WHERE ID = 1")?;
-    Ok(
-        is_printed(&run, Status::Done, "'bo', 5\n1 row selected\n")
-            || is_printed(&run, Status::Done, "'zed', 9\n1 row selected\n"),
-    )
+    let whole = is_printed(&run, Status::Done, "'bo', 5\n1 row selected\n")
+        || is_printed(&run, Status::Done, "'zed', 9\n1 row selected\n");
+    drop(run);
+    Ok(whole)
+}
+
+/// A run of the two sessions by their order, where the call of this number fails.
+fn run_failing<R: Threads + Wait + Sync>(
+    rt: &R,
+    alloc: Global,
+    call: u64,
+) -> Result<Run, AllocError> {
+    let mut line = String::from_str(alloc, "run folder ")?;
+    line.push_str(ORDER)?;
+    let failing = Numbers::of(vec![in alloc; call]?);
+    let disk = MemDisk::new(alloc).fail_at(failing);
+    run_words(rt, alloc, &line, disk, BESIDE)
 }
 
 #[test]
@@ -208,21 +224,18 @@ fn a_write_that_fails_closes_the_server_for_the_other_session(
     rt: HostRuntime,
 ) -> Result<(), AllocError> {
     let alloc = rt.alloc();
-    let run = run_by(&rt, alloc, ORDER, BESIDE)?;
     let text = behind(
         alloc,
         "1 row affected\n@2\n7\n1 row selected\n7\n1 row selected\n",
     )?;
-    assert!(rt; is_printed(&run, Status::Done, &text));
+    let run = run_by(&rt, alloc, ORDER, BESIDE)?;
     let call = last_record(run.disk.calls_made());
-    let failing = MemDisk::new(alloc).fail_at(Numbers::of(vec![in alloc; call]?));
-    let mut line = String::from_str(alloc, "run folder ")?;
-    line.push_str(ORDER)?;
-    let run = run_words(&rt, alloc, &line, failing, BESIDE)?;
+    assert!(rt; prints(run, Status::Done, &text));
     let Ok(text) = told_where(alloc, call) else {
         return Err(AllocError);
     };
-    assert!(rt; is_printed(&run, Status::Device { call }, &text));
+    let run = run_failing(&rt, alloc, call)?;
+    expect_printed(&rt, &run, Status::Device { call }, &text, "the failing run");
     assert!(rt; is_whole(&rt, alloc, disk_of(run))?);
     Ok(())
 }

@@ -1,8 +1,9 @@
 // Scripts and what they print.
-use crate::runs::{Run, ends, is_printed, run_between, run_words};
+use crate::runs::{Run, ends, joined, prints, run_between, run_words};
 use px_outside::{MemDisk, MemSink, MemSource};
 use px_program::Status;
 use std::alloc::{AllocError, Global};
+use std::process::Abort;
 use std::sync::Wait;
 use std::thread::Threads;
 
@@ -19,10 +20,8 @@ fn is_refused<R: Threads + Wait + Sync>(
     statement: &str,
     text: &str,
 ) -> Result<bool, AllocError> {
-    let mut script = String::from_str(alloc, statement)?;
-    script.push_str(";\nSELECT * FROM KV;\n")?;
-    let mut printed = String::from_str(alloc, text)?;
-    printed.push_str(NO_ROW)?;
+    let script = joined(alloc, statement, ";\nSELECT * FROM KV;\n")?;
+    let printed = joined(alloc, text, NO_ROW)?;
     ends(rt, alloc, &script, Status::Refused, &printed)
 }
 
@@ -214,12 +213,9 @@ fn a_row_key_has_at_most_1024_bytes(rt: HostRuntime) {
         (1_023, ADDED, Status::Done),
         (1_024, "E11 limit: KEY 1024\n", Status::Refused),
     ] {
-        let (Ok(key), Ok(mut script)) = (
-            repeated(alloc, "k", times),
-            String::from_str(alloc, "UPSERT INTO KV VALUES ('"),
-        ) else {
-            panic!(rt; "no memory")
-        };
+        let key = repeated(alloc, "k", times).expect(&rt, "no memory");
+        let start = "UPSERT INTO KV VALUES ('";
+        let mut script = String::from_str(alloc, start).expect(&rt, "no memory");
         assert!(rt; script.push_str(&key).is_ok());
         assert!(rt; script.push_str("', 'v');").is_ok());
         assert!(rt; ends(&rt, alloc, &script, status, answer) == Ok(true));
@@ -234,23 +230,19 @@ fn a_condition_nests_64_deep(rt: HostRuntime) {
         (65, "E11 limit: DEPTH 64\n", Status::Refused),
         (100, "E11 limit: DEPTH 64\n", Status::Refused),
     ] {
-        let (Ok(open), Ok(close)) = (repeated(alloc, "(", times), repeated(alloc, ")", times))
-        else {
-            panic!(rt; "no memory")
-        };
-        let (Ok(whole), Ok(cut)) = (
-            nested(alloc, &open, "K = 'a'", &close),
-            nested(alloc, &open, "K = ", &close),
-        ) else {
-            panic!(rt; "no memory")
-        };
+        let (whole, cut) = both_nested(alloc, times).expect(&rt, "no memory");
         assert!(rt; ends(&rt, alloc, &whole, status, answer) == Ok(true));
-        let Ok(run) = run_words(&rt, alloc, "run folder", MemDisk::new(alloc), &cut) else {
-            panic!(rt; "no memory")
-        };
-        assert!(rt; run.status == Status::Refused);
-        assert!(rt; run.printed.held().starts_with(b"E01 syntax at byte "));
+        let disk = MemDisk::new(alloc);
+        let run = run_words(&rt, alloc, "run folder", disk, &cut).expect(&rt, "no memory");
+        expect_cut(&rt, &run);
+        drop(run);
     }
+}
+
+/// Stops the test where the run isn't refused by a place of its syntax.
+fn expect_cut(rt: &impl Abort, run: &Run) {
+    assert!(rt; run.status == Status::Refused);
+    assert!(rt; run.printed.held().starts_with(b"E01 syntax at byte "));
 }
 
 /// A SELECT with this condition between these parentheses.
@@ -262,6 +254,20 @@ fn nested(alloc: Global, open: &str, inner: &str, close: &str) -> Result<String,
     Ok(statement)
 }
 
+/// A SELECT whose condition stands in so many parentheses, and one whose condition lacks its end.
+fn both_nested(alloc: Global, times: usize) -> Result<(String, String), AllocError> {
+    let open = repeated(alloc, "(", times)?;
+    let close = repeated(alloc, ")", times)?;
+    let whole = nested(alloc, &open, "K = 'a'", &close)?;
+    match nested(alloc, &open, "K = ", &close) {
+        Ok(cut) => Ok((whole, cut)),
+        Err(fault) => {
+            drop(whole);
+            Err(fault)
+        }
+    }
+}
+
 #[test]
 fn a_statement_has_at_most_1048576_bytes(rt: HostRuntime) {
     let alloc = rt.alloc();
@@ -270,12 +276,9 @@ fn a_statement_has_at_most_1048576_bytes(rt: HostRuntime) {
         (1_048_560, NO_ROW, Status::Done),
         (1_048_561, "E11 limit: STATEMENT 1048576\n", Status::Refused),
     ] {
-        let (Ok(blanks), Ok(mut script)) = (
-            repeated(alloc, " ", blanks),
-            String::from_str(alloc, "\n   SELECT * FROM KV"),
-        ) else {
-            panic!(rt; "no memory")
-        };
+        let blanks = repeated(alloc, " ", blanks).expect(&rt, "no memory");
+        let start = "\n   SELECT * FROM KV";
+        let mut script = String::from_str(alloc, start).expect(&rt, "no memory");
         assert!(rt; script.push_str(&blanks).is_ok());
         assert!(rt; script.push_str("; SELECT * FROM KV").is_ok());
         let Ok(mut printed) = String::from_str(alloc, answer) else {
@@ -298,10 +301,9 @@ fn a_script_that_is_no_text_is_refused_at_its_first_bad_byte(rt: HostRuntime) {
         (b"\xc3\xa9\xc3".as_slice(), "E01 syntax at byte 2\n"),
         (b"---\n\xed\xa0\x80".as_slice(), "E01 syntax at byte 4\n"),
     ] {
-        let Ok(run) = run_bytes(&rt, alloc, script) else {
-            panic!(rt; "no memory")
-        };
-        assert!(rt; is_printed(&run, Status::Refused, text));
-        assert_eq!(rt; run.entries, 0);
+        let run = run_bytes(&rt, alloc, script).expect(&rt, "no memory");
+        let entries = run.entries;
+        assert!(rt; prints(run, Status::Refused, text));
+        assert_eq!(rt; entries, 0);
     }
 }

@@ -1,5 +1,5 @@
 // Sessions in rounds, their settings, and tables as of a stamp.
-use crate::runs::{disk_of, ends, is_printed, run_again, run_new};
+use crate::runs::{disk_of, ends, prints, run_again, run_new};
 use px_program::Status;
 
 #[test]
@@ -113,9 +113,7 @@ fn a_table_is_read_as_of_each_stamp_in_a_later_run(rt: HostRuntime) {
     let alloc = rt.alloc();
     let script =
         "UPSERT INTO KV VALUES ('a','1'); UPSERT INTO KV VALUES ('b','2'); UPSERT INTO KV VALUES ('a','3');";
-    let Ok(run) = run_new(&rt, alloc, script) else {
-        panic!(rt; "no memory")
-    };
+    let run = run_new(&rt, alloc, script).expect(&rt, "no memory");
     let script = "!scn 1
 SELECT * FROM KV;
 !scn 2
@@ -145,8 +143,6 @@ scn 99
 'b', '2'
 2 rows selected
 ";
-    let Ok(again) = run_again(&rt, alloc, disk_of(run), script) else {
-        panic!(rt; "no memory")
-    };
-    assert!(rt; is_printed(&again, Status::Done, text));
+    let again = run_again(&rt, alloc, disk_of(run), script).expect(&rt, "no memory");
+    assert!(rt; prints(again, Status::Done, text));
 }

@@ -2,7 +2,9 @@
 ghost use Rattle.px_outside.specs.MemDisk.{mem_calls as calls_of, mem_faults as faults_of, mem_first_fault as first_fault_of, calls_made};
 ghost use Rattle.std.specs.Prelude.{◌≡◌, []};
 
-use crate::runs::{FIRST_SCRIPT, FIRST_SEGMENT, Run, disk_of, is_printed, run_again, run_words};
+use crate::runs::{
+    FIRST_SCRIPT, FIRST_SEGMENT, Run, disk_of, is_printed, prints, run_again, run_words,
+};
 use px_outside::{Choice, Disk, MemDisk};
 use px_program::Status;
 use std::alloc::{AllocError, Global};
@@ -27,6 +29,7 @@ pub fn stopped<R: Threads + Wait + Sync>(
 {
     let run = run_words(rt, alloc, "run folder", disk.stop_at(call, choice), script)?;
     if run.status != (Status::Device { call }) {
+        drop(run);
         return Ok(None);
     }
     Ok(Some(disk_of(run).image()))
@@ -42,13 +45,13 @@ fn shows<R: Threads + Wait + Sync>(
 ) -> Result<bool, AllocError> {
     let mut left = disk;
     for call in 1..7 {
-        let Some(next) = stopped(rt, alloc, left.image(), call, choice, SELECT)? else {
-            return Ok(false);
-        };
-        left = next;
+        match stopped(rt, alloc, left.image(), call, choice, SELECT)? {
+            None => return Ok(false),
+            Some(next) => left = next,
+        }
     }
     let run = run_again(rt, alloc, left, SELECT)?;
-    Ok(is_printed(&run, Status::Done, rows))
+    Ok(prints(run, Status::Done, rows))
 }
 
 /// Whether a stop in that call of a run on a new disk leaves these rows.
@@ -181,6 +184,7 @@ fn file_opens<R: Threads + Wait + Sync>(
         Opens::ItsRow => is_printed(&run, Status::Done, "'a', 'b'\n1 row selected\n"),
         Opens::Cells => is_by_cells(&run),
     };
+    drop(run);
     Ok(written && is_right)
 }
 

@@ -24,19 +24,17 @@ const ADDED: &str = "table created
 1 row affected
 ";
 
-/// Whether the query gives the keys that these digits are, in their order.
-fn gives<R: Threads + Wait + Sync>(
-    rt: &R,
-    alloc: Global,
-    query: &str,
-    keys: &str,
-) -> Result<bool, AllocError> {
-    let (mut script, mut printed) = (
-        String::from_str(alloc, PAIRS)?,
-        String::from_str(alloc, ADDED)?,
-    );
+/// The pairs, and a query of their keys.
+fn asked(alloc: Global, query: &str) -> Result<String, AllocError> {
+    let mut script = String::from_str(alloc, PAIRS)?;
     script.push_str("SELECT K FROM B ")?;
     script.push_str(query)?;
+    Ok(script)
+}
+
+/// What is printed where the query gives the keys that these digits are.
+fn told(alloc: Global, keys: &str) -> Result<String, AllocError> {
+    let mut printed = String::from_str(alloc, ADDED)?;
     for key in keys.chars() {
         printed.push(key)?;
         printed.push('\n')?;
@@ -53,6 +51,18 @@ fn gives<R: Threads + Wait + Sync>(
         _ => "9 rows selected\n",
     };
     printed.push_str(count)?;
+    Ok(printed)
+}
+
+/// Whether the query gives the keys that these digits are, in their order.
+fn gives<R: Threads + Wait + Sync>(
+    rt: &R,
+    alloc: Global,
+    query: &str,
+    keys: &str,
+) -> Result<bool, AllocError> {
+    let script = asked(alloc, query)?;
+    let printed = told(alloc, keys)?;
     ends(rt, alloc, &script, Status::Done, &printed)
 }
 

@@ -24,18 +24,48 @@ pub(crate) fn cells_of(alloc: Global, rows: &[u8], stamp: u8, len: u16) -> Optio
     read_cells(alloc, &bytes, count).ok()
 }
 
+/// Writes all blocks of a file of cells.
+fn write(alloc: Global, disk: &mut MemDisk, making: &mut Making, cells: &Cells) -> Option<()>
+    requires { IsWritten cells.now }
+{
+    for _ in 0..10 {
+        match making.step(alloc, disk, cells.as_slice()).ok()? {
+            MakeStep::More => {}
+            MakeStep::Done => return Some(()),
+        }
+    }
+    None
+}
+
 /// Makes a file of cells.
 fn make(alloc: Global, disk: &mut MemDisk, file: u64, cells: &Cells) -> Option<RegionFile>
     requires { IsWritten cells.now }
 {
     let mut making = Making::begin(alloc, disk, file).ok()?;
-    for _ in 0..10 {
-        match making.step(alloc, disk, cells.as_slice()).ok()? {
-            MakeStep::More => {}
-            MakeStep::Done => return making.finish(alloc, disk).ok(),
+    match write(alloc, disk, &mut making, cells) {
+        Some(()) => making.finish(alloc, disk).ok(),
+        None => {
+            drop(making);
+            None
         }
     }
-    None
+}
+
+/// Makes a file of cells, with its filter.
+fn make_read(alloc: Global, disk: &mut MemDisk, file: u64, cells: &Cells) -> Option<ReadFile>
+    requires { IsWritten cells.now }
+{
+    let file = make(alloc, disk, file, cells)?;
+    match KeyFilter::with_room(alloc, file.cells()) {
+        Ok(mut keys) => {
+            keys.add_all(cells.as_slice());
+            Some(ReadFile { file, keys })
+        }
+        Err(_) => {
+            drop(file);
+            None
+        }
+    }
 }
 
 /// A file of some rows at a stamp, four of them a block, with its filter.
@@ -47,8 +77,7 @@ pub(crate) fn made(
     file: u64,
 ) -> Option<ReadFile> {
     let cells = cells_of(alloc, rows, stamp, 9_000)?;
-    let file = make(alloc, disk, file, &cells)?;
-    let mut keys = KeyFilter::with_room(alloc, file.cells()).ok()?;
-    keys.add_all(cells.as_slice());
-    Some(ReadFile { file, keys })
+    let file = make_read(alloc, disk, file, &cells);
+    drop(cells);
+    file
 }

@@ -5,6 +5,7 @@ use px_region::Region;
 use px_tests_stops::{Run, calls_of, stops_well};
 use px_wal::Manifest;
 use std::alloc::Global;
+use std::process::Abort;
 use std::test::Fail;
 
 /// How many files the manifest of region 3 names.
@@ -73,22 +74,35 @@ fn rows_shown(alloc: Global, image: &mut MemDisk) -> Option<u64> {
 fn four_files_are_merged_before_a_flush(rt: HostRuntime) -> Result<(), Fail> {
     let alloc = rt.alloc();
     let mut disk = MemDisk::new(alloc);
-    let mut told = 0;
-    let done = run(alloc, &mut disk, &mut told);
-    assert!(rt; done == Some(()) && told == 5);
-    let files = named(alloc, &mut disk);
-    assert!(rt; files == Some(2), "{files:?}");
-    let rows = rows_shown(alloc, &mut disk);
-    assert!(rt; rows == Some(5), "{rows:?}");
+    merge_four(&rt, alloc, &mut disk);
+    drop(disk);
     Ok(())
+}
+
+fn merge_four(rt: &impl Abort, alloc: Global, disk: &mut MemDisk) {
+    let mut told = 0;
+    let done = run(alloc, disk, &mut told);
+    assert!(rt; done == Some(()) && told == 5);
+    let files = named(alloc, disk);
+    assert!(rt; files == Some(2), "{files:?}");
+    let rows = rows_shown(alloc, disk);
+    assert!(rt; rows == Some(5), "{rows:?}");
 }
 
 /// Makes the steps of the next segment of the manifest of region 3, which is open, and answers their number.
 fn renewed(alloc: Global, disk: &mut MemDisk) -> Option<u64> {
     let mut manifest = Manifest::start(alloc, disk, 3).ok()?;
+    let steps = renew(alloc, disk, &mut manifest);
+    drop(manifest);
+    steps
+}
+
+fn renew(alloc: Global, disk: &mut MemDisk, manifest: &mut Manifest) -> Option<u64> {
     for steps in 1..5u64 {
         let mut frame = Frame::with_room(alloc, manifest.snapshot().body_len()).ok()?;
-        match manifest.roll_step(disk, &mut frame).ok()? {
+        let rolled = manifest.roll_step(disk, &mut frame);
+        drop(frame);
+        match rolled.ok()? {
             Rolled::More => {}
             Rolled::Rolled => return Some(steps),
         }
@@ -100,15 +114,20 @@ fn renewed(alloc: Global, disk: &mut MemDisk) -> Option<u64> {
 fn a_renewed_manifest_names_the_same(rt: HostRuntime) -> Result<(), Fail> {
     let alloc = rt.alloc();
     let mut disk = MemDisk::new(alloc);
-    let mut told = 0;
-    let done = run(alloc, &mut disk, &mut told);
-    assert!(rt; done == Some(()) && named(alloc, &mut disk) == Some(2));
-    assert!(rt; renewed(alloc, &mut disk) == Some(3));
-    assert!(rt; renewed(alloc, &mut disk) == Some(3));
-    assert!(rt; named(alloc, &mut disk) == Some(2));
-    let rows = rows_shown(alloc, &mut disk);
-    assert!(rt; rows == Some(5), "{rows:?}");
+    renew_twice(&rt, alloc, &mut disk);
+    drop(disk);
     Ok(())
+}
+
+fn renew_twice(rt: &impl Abort, alloc: Global, disk: &mut MemDisk) {
+    let mut told = 0;
+    let done = run(alloc, disk, &mut told);
+    assert!(rt; done == Some(()) && named(alloc, disk) == Some(2));
+    assert!(rt; renewed(alloc, disk) == Some(3));
+    assert!(rt; renewed(alloc, disk) == Some(3));
+    assert!(rt; named(alloc, disk) == Some(2));
+    let rows = rows_shown(alloc, disk);
+    assert!(rt; rows == Some(5), "{rows:?}");
 }
 
 /// Five rows, each with its flush, of which the last one has a compaction before it.

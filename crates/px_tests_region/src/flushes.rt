@@ -3,6 +3,7 @@ use px_outside::{Choice, MemDisk};
 use px_region::Region;
 use px_tests_stops::{Run, calls_of, stops_well};
 use std::alloc::Global;
+use std::process::Abort;
 use std::test::Fail;
 
 /// Makes so many steps of a flush.
@@ -58,12 +59,17 @@ fn rows_shown(alloc: Global, image: &mut MemDisk) -> Option<u64> {
 fn a_flush_leaves_what_is_read(rt: HostRuntime) -> Result<(), Fail> {
     let alloc = rt.alloc();
     let mut disk = MemDisk::new(alloc);
-    let mut told = 0;
-    let logged = run(alloc, &mut disk, &mut told);
-    assert!(rt; logged == Some(2), "{logged:?}");
-    let rows = rows_shown(alloc, &mut disk);
-    assert!(rt; rows == Some(3), "{rows:?}");
+    flush_three(&rt, alloc, &mut disk);
+    drop(disk);
     Ok(())
+}
+
+fn flush_three(rt: &impl Abort, alloc: Global, disk: &mut MemDisk) {
+    let mut told = 0;
+    let logged = run(alloc, disk, &mut told);
+    assert!(rt; logged == Some(2), "{logged:?}");
+    let rows = rows_shown(alloc, disk);
+    assert!(rt; rows == Some(3), "{rows:?}");
 }
 
 /// Three rows and the flush of two.

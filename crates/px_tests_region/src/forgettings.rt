@@ -4,6 +4,7 @@ use px_region::{ForgetStep, Region};
 use px_tests_stops::{Run, calls_of, stops_well};
 use px_wal::local_file;
 use std::alloc::Global;
+use std::process::Abort;
 use std::test::Fail;
 
 /// Orders a compaction that forgets at a horizon, makes the steps until it did, and answers their number.
@@ -59,12 +60,18 @@ fn forgot(alloc: Global, disk: &mut MemDisk, region: &mut Region) -> Option<&'st
 fn a_region_forgets_in_memory_and_on_the_disk(rt: HostRuntime) -> Result<(), Fail> {
     let alloc = rt.alloc();
     let mut disk = MemDisk::new(alloc);
-    let mut region = opened(alloc, &mut disk, 3).ok_or("not opened")?;
-    let wrong = forgot(alloc, &mut disk, &mut region);
+    let done = forget_on_disk(&rt, alloc, &mut disk);
+    drop(disk);
+    done
+}
+
+fn forget_on_disk(rt: &impl Abort, alloc: Global, disk: &mut MemDisk) -> Result<(), Fail> {
+    let mut region = opened(alloc, disk, 3).ok_or("not opened")?;
+    let wrong = forgot(alloc, disk, &mut region);
     drop(region);
     assert!(rt; wrong.is_none(), "{wrong:?}");
-    let mut again = opened(alloc, &mut disk, 3).ok_or("not opened")?;
-    let same = is_shown(shown(alloc, &mut disk, &mut again), KEPT);
+    let mut again = opened(alloc, disk, 3).ok_or("not opened")?;
+    let same = is_shown(shown(alloc, disk, &mut again), KEPT);
     let horizon = again.horizon();
     drop(again);
     assert!(rt; same && horizon == 2);
@@ -97,10 +104,16 @@ fn interrupted(alloc: Global, disk: &mut MemDisk, region: &mut Region) -> Option
 fn a_cell_at_the_horizon_puts_it_off(rt: HostRuntime) -> Result<(), Fail> {
     let alloc = rt.alloc();
     let mut disk = MemDisk::new(alloc);
-    let mut region = opened(alloc, &mut disk, 3).ok_or("not opened")?;
-    let done = interrupted(alloc, &mut disk, &mut region);
+    let done = put_off(&rt, alloc, &mut disk);
+    drop(disk);
+    done
+}
+
+fn put_off(rt: &impl Abort, alloc: Global, disk: &mut MemDisk) -> Result<(), Fail> {
+    let mut region = opened(alloc, disk, 3).ok_or("not opened")?;
+    let done = interrupted(alloc, disk, &mut region);
     let kept = is_shown(
-        shown(alloc, &mut disk, &mut region),
+        shown(alloc, disk, &mut region),
         b"a\0a\0a\x003a\x002b\0b\x004c\0c\x005",
     );
     let horizon = region.horizon();
@@ -114,15 +127,20 @@ fn a_cell_at_the_horizon_puts_it_off(rt: HostRuntime) -> Result<(), Fail> {
 fn another_horizon_begins_anew(rt: HostRuntime) -> Result<(), Fail> {
     let alloc = rt.alloc();
     let mut disk = MemDisk::new(alloc);
-    let mut region = opened(alloc, &mut disk, 3).ok_or("not opened")?;
-    let filled = fill(alloc, &mut disk, &mut region).is_some()
-        && flush(&mut disk, &mut region).is_some();
+    let done = begin_anew(&rt, alloc, &mut disk);
+    drop(disk);
+    done
+}
+
+fn begin_anew(rt: &impl Abort, alloc: Global, disk: &mut MemDisk) -> Result<(), Fail> {
+    let mut region = opened(alloc, disk, 3).ok_or("not opened")?;
+    let filled = fill(alloc, disk, &mut region).is_some() && flush(disk, &mut region).is_some();
     region.order_compact();
     region.begin_forgetting::<MemDisk>(1);
-    let given_up = matches!(region.forget_step(&mut disk, 2), Ok(ForgetStep::More))
+    let given_up = matches!(region.forget_step(disk, 2), Ok(ForgetStep::More))
         && region.wants_to_forget();
-    let done = forget(&mut disk, &mut region, 2);
-    let kept = is_shown(shown(alloc, &mut disk, &mut region), KEPT);
+    let done = forget(disk, &mut region, 2);
+    let kept = is_shown(shown(alloc, disk, &mut region), KEPT);
     let horizon = region.horizon();
     // One that isn't above the horizon of before isn't wanted.
     region.order_compact();
@@ -138,12 +156,18 @@ fn another_horizon_begins_anew(rt: HostRuntime) -> Result<(), Fail> {
 fn a_region_forgets_what_it_read_again(rt: HostRuntime) -> Result<(), Fail> {
     let alloc = rt.alloc();
     let mut disk = MemDisk::new(alloc);
-    let mut region = opened(alloc, &mut disk, 3).ok_or("not opened")?;
-    let filled = fill(alloc, &mut disk, &mut region).is_some();
+    let done = forget_behind_reopening(&rt, alloc, &mut disk);
+    drop(disk);
+    done
+}
+
+fn forget_behind_reopening(rt: &impl Abort, alloc: Global, disk: &mut MemDisk) -> Result<(), Fail> {
+    let mut region = opened(alloc, disk, 3).ok_or("not opened")?;
+    let filled = fill(alloc, disk, &mut region).is_some();
     drop(region);
-    let mut again = opened(alloc, &mut disk, 3).ok_or("not opened again")?;
-    let steps = forget(&mut disk, &mut again, 3);
-    let kept = is_shown(shown(alloc, &mut disk, &mut again), b"a\0a\x003b\0b\x004");
+    let mut again = opened(alloc, disk, 3).ok_or("not opened again")?;
+    let steps = forget(disk, &mut again, 3);
+    let kept = is_shown(shown(alloc, disk, &mut again), b"a\0a\x003b\0b\x004");
     let horizon = again.horizon();
     drop(again);
     assert!(rt; filled && kept && horizon == 3, "{steps:?}");
@@ -182,10 +206,16 @@ const SECOND: u32 = 5;
 fn a_file_of_other_cells_takes_none_from_memory(rt: HostRuntime) -> Result<(), Fail> {
     let alloc = rt.alloc();
     let mut disk = MemDisk::new(alloc);
-    let mut region = opened(alloc, &mut disk, 3).ok_or("not opened")?;
-    let changed = changed(alloc, &mut disk, &mut region).is_some();
-    let steps = forget(&mut disk, &mut region, 2);
-    let all = is_shown(shown(alloc, &mut disk, &mut region), ALL);
+    let done = keep_all(&rt, alloc, &mut disk);
+    drop(disk);
+    done
+}
+
+fn keep_all(rt: &impl Abort, alloc: Global, disk: &mut MemDisk) -> Result<(), Fail> {
+    let mut region = opened(alloc, disk, 3).ok_or("not opened")?;
+    let changed = changed(alloc, disk, &mut region).is_some();
+    let steps = forget(disk, &mut region, 2);
+    let all = is_shown(shown(alloc, disk, &mut region), ALL);
     let horizon = region.horizon();
     let wanted = region.wants_to_forget();
     drop(region);
@@ -207,6 +237,21 @@ fn filled(alloc: Global, disk: &mut MemDisk) -> Option<Region> {
             None
         }
     }
+}
+
+// How many calls of the disk the rows take.
+fn calls_of_rows(alloc: Global) -> Option<u64> {
+    let mut disk = MemDisk::new(alloc);
+    let is_filled = match filled(alloc, &mut disk) {
+        Some(region) => {
+            drop(region);
+            true
+        }
+        None => false,
+    };
+    let calls = disk.calls_made().len() as u64;
+    drop(disk);
+    if is_filled { Some(calls) } else { None }
 }
 
 /// Rows, and then what a horizon hides of them is forgotten.
@@ -241,11 +286,7 @@ impl Run for Forgettings {
 #[test]
 fn a_stop_leaves_all_or_what_is_kept(rt: HostRuntime) -> Result<(), Fail> {
     let alloc = rt.alloc();
-    let mut disk = MemDisk::new(alloc);
-    let region = filled(alloc, &mut disk).ok_or("not filled")?;
-    let first = disk.calls_made().len() as u64;
-    drop(region);
-    drop(disk);
+    let first = calls_of_rows(alloc).ok_or("not filled")?;
     let (calls, told) = calls_of(alloc, &Forgettings).ok_or("not run")?;
     assert!(rt;
         first.saturating_add(20) < calls && told == 2,

@@ -4,14 +4,29 @@ use crate::pieces::row;
 use px_cellbytes::read_cells;
 use px_gatelog::{Frame, Rolled};
 use px_outside::{Choice, MemDisk};
-use px_wal::Wal;
+use px_wal::{Replayed, Wal};
 use std::alloc::Global;
+use std::process::Abort;
 use std::test::Fail;
+
+/// The log of a region that was flushed up to a number.
+pub fn replayed(alloc: Global, disk: &mut MemDisk, region: u32, flushed: u64) -> Option<Wal> {
+    let Replayed {
+        wal,
+        store,
+        cells: _,
+        bytes: _,
+    } = Wal::replay(alloc, disk, region, flushed).ok()?;
+    drop(store);
+    Some(wal)
+}
 
 /// Makes the steps of a switch, and answers whether it may be made, where the log was flushed up to a number.
 pub fn switched(alloc: Global, disk: &mut MemDisk, region: u32, flushed: u64) -> Option<bool> {
-    let mut wal = Wal::replay(alloc, disk, region, flushed).ok()?.wal;
-    switch(disk, &mut wal, flushed)
+    let mut wal = replayed(alloc, disk, region, flushed)?;
+    let done = switch(disk, &mut wal, flushed);
+    drop(wal);
+    done
 }
 
 fn switch(disk: &mut MemDisk, wal: &mut Wal, flushed: u64) -> Option<bool> {
@@ -48,11 +63,13 @@ fn append(alloc: Global, disk: &mut MemDisk, wal: &mut Wal) -> Option<u64> {
     let mut frame = Frame::with_room(alloc, 12 + bytes.len() as u64).ok()?;
     let number = match read_cells(alloc, &bytes, 2) {
         Ok(cells) => {
-            if wal.is_open() {
+            let number = if wal.is_open() {
                 wal.append(disk, &cells, &mut frame).ok()
             } else {
                 None
-            }
+            };
+            drop(cells);
+            number
         }
         Err(_) => None,
     };
@@ -63,19 +80,31 @@ fn append(alloc: Global, disk: &mut MemDisk, wal: &mut Wal) -> Option<u64> {
 // Two batches, a switch, a batch, and where the first two were flushed, a switch and a batch more. It counts the batches that were
 // told to be there.
 fn run(alloc: Global, disk: &mut MemDisk, told: &mut u64, flushed: &mut u64) -> Option<()> {
-    let mut wal = Wal::replay(alloc, disk, 1, 0).ok()?.wal;
-    open_log(disk, &mut wal)?;
-    *told = append(alloc, disk, &mut wal)?;
-    *told = append(alloc, disk, &mut wal)?;
-    if switch(disk, &mut wal, 0)? {
-        *told = append(alloc, disk, &mut wal)?;
+    let mut wal = replayed(alloc, disk, 1, 0)?;
+    let done = run_in(alloc, disk, &mut wal, told, flushed);
+    drop(wal);
+    done
+}
+
+fn run_in(
+    alloc: Global,
+    disk: &mut MemDisk,
+    wal: &mut Wal,
+    told: &mut u64,
+    flushed: &mut u64,
+) -> Option<()> {
+    open_log(disk, wal)?;
+    *told = append(alloc, disk, wal)?;
+    *told = append(alloc, disk, wal)?;
+    if switch(disk, wal, 0)? {
+        *told = append(alloc, disk, wal)?;
     }
-    if switch(disk, &mut wal, 0)? {
+    if switch(disk, wal, 0)? {
         return None;
     }
     *flushed = 2;
-    if switch(disk, &mut wal, 2)? {
-        *told = append(alloc, disk, &mut wal)?;
+    if switch(disk, wal, 2)? {
+        *told = append(alloc, disk, wal)?;
     }
     Some(())
 }
@@ -92,13 +121,18 @@ fn seen(alloc: Global, disk: &mut MemDisk, flushed: u64) -> Option<(u64, u64, u6
 fn flushed_batches_leave_the_log(rt: HostRuntime) -> Result<(), Fail> {
     let alloc = rt.alloc();
     let mut disk = MemDisk::new(alloc);
-    let (mut told, mut flushed) = (0, 0);
-    assert!(rt; run(alloc, &mut disk, &mut told, &mut flushed).is_some());
-    assert!(rt; (told, flushed) == (4, 2));
-    assert!(rt; seen(alloc, &mut disk, 2) == Some((4, 4, 3)));
-    // Batches 1 and 2 are gone, so that the log isn't right where they weren't flushed.
-    assert!(rt; seen(alloc, &mut disk, 0).is_none());
+    leave_flushed(&rt, alloc, &mut disk);
+    drop(disk);
     Ok(())
+}
+
+fn leave_flushed(rt: &impl Abort, alloc: Global, disk: &mut MemDisk) {
+    let (mut told, mut flushed) = (0, 0);
+    assert!(rt; run(alloc, disk, &mut told, &mut flushed).is_some());
+    assert!(rt; (told, flushed) == (4, 2));
+    assert!(rt; seen(alloc, disk, 2) == Some((4, 4, 3)));
+    // Batches 1 and 2 are gone, so that the log isn't right where they weren't flushed.
+    assert!(rt; seen(alloc, disk, 0).is_none());
 }
 
 // Whether a stop at a call leaves all batches above the flushed number, and the log takes one more.
@@ -122,12 +156,19 @@ fn stops_well(alloc: Global, call: u64, choice: Choice) -> bool {
 }
 
 fn goes_on(alloc: Global, image: &mut MemDisk, flushed: u64) -> Option<u64> {
-    let mut wal = Wal::replay(alloc, image, 1, flushed).ok()?.wal;
-    open_log(image, &mut wal)?;
+    let mut wal = replayed(alloc, image, 1, flushed)?;
+    let number = append_behind(alloc, image, &mut wal, flushed);
+    drop(wal);
+    number
+}
+
+// Switches the log where it may be, and appends.
+fn append_behind(alloc: Global, image: &mut MemDisk, wal: &mut Wal, flushed: u64) -> Option<u64> {
+    open_log(image, wal)?;
     if wal.older_to() <= flushed {
-        let _ = switch(image, &mut wal, flushed)?;
+        let _ = switch(image, wal, flushed)?;
     }
-    append(alloc, image, &mut wal)
+    append(alloc, image, wal)
 }
 
 fn calls_of_run(alloc: Global) -> Option<u64> {

@@ -70,16 +70,26 @@ const SCHEDULES: &[&[u32]] = &[
     ],
 ];
 
-/// A table of so many rows, of which each third has the same text, and then what both sessions do.
-fn script(alloc: Global) -> Result<String, fmt::Error> {
-    let mut script = String::new(alloc);
+/// Adds a table of so many rows, of which each third has the same text, and then what both sessions do.
+fn add_all(script: &mut String) -> Result<(), fmt::Error> {
     script.write_str("CREATE TABLE T (ID BIGINT PRIMARY KEY, A VARCHAR);\n!autocommit off\n")?;
     for row in 0..ROWS {
         let letter = if row % 3 == 0 { 'x' } else { 'y' };
         write!(script, "UPSERT INTO T VALUES ({row}, '{letter}');")?;
     }
-    script.write_str(BUILT)?;
-    Ok(script)
+    script.write_str(BUILT)
+}
+
+/// The whole script.
+fn script(alloc: Global) -> Result<String, fmt::Error> {
+    let mut script = String::new(alloc);
+    match add_all(&mut script) {
+        Ok(()) => Ok(script),
+        Err(failed) => {
+            drop(script);
+            Err(failed)
+        }
+    }
 }
 
 /// Whether the index is built by this schedule, and has the rows that the table has then.
@@ -89,12 +99,16 @@ fn is_built<R: Threads + Wait + Sync>(
     schedule: &[u32],
 ) -> Result<bool, fmt::Error> {
     let script = script(alloc)?;
-    Ok(
-        match run_whole(rt, alloc, &NoGate, &script, Some(schedule)) {
-            Some(printed) => printed.held().ends_with(PRINTED.as_bytes()),
-            None => false,
-        },
-    )
+    let printed = run_whole(rt, alloc, &NoGate, &script, Some(schedule));
+    drop(script);
+    match printed {
+        Some(printed) => {
+            let is_built = printed.held().ends_with(PRINTED.as_bytes());
+            drop(printed);
+            Ok(is_built)
+        }
+        None => Ok(false),
+    }
 }
 
 #[test]

@@ -1,4 +1,5 @@
 // Two sessions change one row at once, in an order that a schedule says.
+use px_outside::MemSink;
 use px_rounds::NoGate;
 use px_tests_runs::runs::run_whole;
 use std::alloc::{AllocError, Global};
@@ -91,10 +92,29 @@ const SCHEDULES: &[(&[u32], &str)] = &[
     (&[7, 7, 7], AL),
 ];
 
-fn replies(alloc: Global, last: &str) -> Result<String, AllocError> {
-    let mut text = String::from_str(alloc, FIRST)?;
-    text.push_str(last)?;
-    Ok(text)
+/// One text behind another.
+fn joined(alloc: Global, first: &str, last: &str) -> Result<String, AllocError> {
+    let mut text = String::from_str(alloc, first)?;
+    match text.push_str(last) {
+        Ok(()) => Ok(text),
+        Err(failed) => {
+            drop(text);
+            Err(failed)
+        }
+    }
+}
+
+/// Whether what is printed is a beginning and an end.
+fn is_joined(
+    alloc: Global,
+    printed: &MemSink,
+    first: &str,
+    last: &str,
+) -> Result<bool, AllocError> {
+    let text = joined(alloc, first, last)?;
+    let is_joined = printed.held() == text.as_bytes();
+    drop(text);
+    Ok(is_joined)
 }
 
 /// Whether the changes by this schedule, and what is asked behind them, print this.
@@ -105,15 +125,17 @@ fn ends_so<R: Threads + Wait + Sync>(
     asked: &str,
     last: &str,
 ) -> Result<bool, AllocError> {
-    let mut script = String::from_str(alloc, CHANGES)?;
-    script.push_str(asked)?;
-    let replies = replies(alloc, last)?;
-    Ok(
-        match run_whole(rt, alloc, &NoGate, &script, Some(schedule)) {
-            Some(printed) => printed.held() == replies.as_bytes(),
-            None => false,
-        },
-    )
+    let script = joined(alloc, CHANGES, asked)?;
+    let printed = run_whole(rt, alloc, &NoGate, &script, Some(schedule));
+    drop(script);
+    match printed {
+        Some(printed) => {
+            let is_so = is_joined(alloc, &printed, FIRST, last);
+            drop(printed);
+            is_so
+        }
+        None => Ok(false),
+    }
 }
 
 #[test]

@@ -59,10 +59,13 @@ fn add_step(schedule: &mut Vec<u32>, dice: &mut Dice, asking: u32) -> Result<(),
     Ok(())
 }
 
-/// A plan of so many steps.
-pub fn planned(alloc: Global, dice: &mut Dice, steps: u32) -> Result<Plan, AllocError> {
-    let mut texts = Vec::new(alloc);
-    let (mut schedule, mut asked) = (Vec::new(alloc), Vec::new(alloc));
+/// Adds the texts of the sessions that change rows.
+fn add_changes(
+    alloc: Global,
+    dice: &mut Dice,
+    steps: u32,
+    texts: &mut Vec<SessionText>,
+) -> Result<(), AllocError> {
     for place in 0..SESSIONS {
         let text = changes(alloc, dice, steps / 20)?;
         texts.push(SessionText {
@@ -70,20 +73,78 @@ pub fn planned(alloc: Global, dice: &mut Dice, steps: u32) -> Result<Plan, Alloc
             text: Text::of(text),
         })?;
     }
+    Ok(())
+}
+
+/// Adds so many random steps, and the texts of the sessions that ask behind them.
+fn add_looks(
+    alloc: Global,
+    dice: &mut Dice,
+    steps: u32,
+    texts: &mut Vec<SessionText>,
+    schedule: &mut Vec<u32>,
+    asked: &mut Vec<usize>,
+) -> Result<(), AllocError> {
     for step in 0..steps {
         let session = step.saturating_add(SESSIONS).saturating_add(1);
-        let text = looks(alloc, dice, &mut asked)?;
+        let text = looks(alloc, dice, asked)?;
         texts.push(SessionText {
             session,
             text: Text::of(text),
         })?;
-        add_step(&mut schedule, dice, session)?;
+        add_step(schedule, dice, session)?;
     }
+    Ok(())
+}
+
+/// A script of one round.
+fn one_round(alloc: Global, texts: Vec<SessionText>) -> Result<Script, AllocError> {
     let mut rounds = Vec::new(alloc);
-    rounds.push(Items::of(texts))?;
-    Ok(Plan {
-        script: Items::of(rounds),
-        schedule,
-        asked,
-    })
+    match rounds.push(Items::of(texts)) {
+        Ok(()) => Ok(Items::of(rounds)),
+        Err(failed) => {
+            drop(failed);
+            drop(rounds);
+            Err(AllocError)
+        }
+    }
+}
+
+/// The texts of all sessions. Fills whose steps are next, and what is asked as of an earlier stamp.
+fn filled(
+    alloc: Global,
+    dice: &mut Dice,
+    steps: u32,
+    schedule: &mut Vec<u32>,
+    asked: &mut Vec<usize>,
+) -> Result<Script, AllocError> {
+    let mut texts = Vec::new(alloc);
+    let done = match add_changes(alloc, dice, steps, &mut texts) {
+        Ok(()) => add_looks(alloc, dice, steps, &mut texts, schedule, asked),
+        Err(failed) => Err(failed),
+    };
+    match done {
+        Ok(()) => one_round(alloc, texts),
+        Err(failed) => {
+            drop(texts);
+            Err(failed)
+        }
+    }
+}
+
+/// A plan of so many steps.
+pub fn planned(alloc: Global, dice: &mut Dice, steps: u32) -> Result<Plan, AllocError> {
+    let (mut schedule, mut asked) = (Vec::new(alloc), Vec::new(alloc));
+    match filled(alloc, dice, steps, &mut schedule, &mut asked) {
+        Ok(script) => Ok(Plan {
+            script,
+            schedule,
+            asked,
+        }),
+        Err(failed) => {
+            drop(schedule);
+            drop(asked);
+            Err(failed)
+        }
+    }
 }

@@ -104,19 +104,20 @@ fn stands(trail: &Trail, late: &Option<Entry>, part: Part) -> Option<bool> {
 
 /// What a run tells of what it left.
 fn left_by(alloc: Global, ran: &Ran<MemDisk>) -> Result<Left, AllocError> {
-    let (mut versions, mut files) = (Vec::new(alloc), Vec::new(alloc));
-    add_files(ran.disk.calls_made(), &mut files)?;
-    add_written(alloc, &ran.trail, &mut versions)?;
-    settle(&mut versions);
-    let settled = versions.len();
-    add_late(alloc, &ran.trail, &ran.late, &mut versions)?;
-    Ok(Left {
-        versions,
-        settled,
-        files,
+    let mut left = Left {
+        versions: Vec::new(alloc),
+        settled: 0,
+        files: Vec::new(alloc),
         table: stands(&ran.trail, &ran.late, Part::Table),
         index: stands(&ran.trail, &ran.late, Part::Index),
-    })
+    };
+    match left.add(alloc, ran) {
+        Ok(()) => Ok(left),
+        Err(failed) => {
+            drop(left);
+            Err(failed)
+        }
+    }
 }
 
 /// What is there behind a stop in the opening of an empty folder.
@@ -146,9 +147,22 @@ fn parts_in(opened: &Opened) -> (bool, bool) {
 }
 
 impl Left {
-    /// Settles what the stop left open, by what is there: each row of the stopped step by its cells, and whether the table and the index stand.
-    fn decide(&mut self, alloc: Global, opened: &Opened) -> Result<(), AllocError> {
-        let mut kept = Vec::new(alloc);
+    /// Adds the files and the rows of a run.
+    fn add(&mut self, alloc: Global, ran: &Ran<MemDisk>) -> Result<(), AllocError> {
+        add_files(ran.disk.calls_made(), &mut self.files)?;
+        add_written(alloc, &ran.trail, &mut self.versions)?;
+        settle(&mut self.versions);
+        self.settled = self.versions.len();
+        add_late(alloc, &ran.trail, &ran.late, &mut self.versions)
+    }
+
+    /// Takes off the rows of the stopped step, and keeps those that have a cell.
+    fn take_late(
+        &mut self,
+        alloc: Global,
+        opened: &Opened,
+        kept: &mut Vec<Version>,
+    ) -> Result<(), AllocError> {
         let count = self.versions.len();
         for _ in self.settled..count {
             if let Some(version) = self.versions.pop() {
@@ -158,9 +172,25 @@ impl Left {
                 }
             }
         }
+        Ok(())
+    }
+
+    fn put_back(&mut self, kept: &[Version]) -> Result<(), AllocError> {
         for version in kept {
-            self.versions.push(version)?;
+            self.versions.push(*version)?;
         }
+        Ok(())
+    }
+
+    /// Settles what the stop left open, by what is there: each row of the stopped step by its cells, and whether the table and the index stand.
+    fn decide(&mut self, alloc: Global, opened: &Opened) -> Result<(), AllocError> {
+        let mut kept = Vec::new(alloc);
+        let done = match self.take_late(alloc, opened, &mut kept) {
+            Ok(()) => self.put_back(&kept),
+            Err(failed) => Err(failed),
+        };
+        drop(kept);
+        done?;
         let (table, index) = parts_in(opened);
         self.table = Some(self.table.unwrap_or(table));
         self.index = Some(self.index.unwrap_or(index));

@@ -114,8 +114,9 @@ fn prepared<R: Threads + Wait + Sync>(rt: &R, alloc: Global) -> Option<MemDisk> 
     let ran = run(rt, alloc, disk.image(), TWO_ROWS, &[]).ran()?;
     let call = calls_at(&ran.trail, Step::Begun(2));
     drop(ran);
+    let call = call?.saturating_add(1);
     let disk = after(rt, alloc, MemDisk::new(alloc), ORDERS)?;
-    let stopping = disk.image().stop_at(call?.saturating_add(1), Choice::Old);
+    let stopping = disk.image().stop_at(call, Choice::Old);
     let ran = run(rt, alloc, stopping, TWO_ROWS, &[]).ran()?;
     Some(disk_of(ran))
 }
@@ -131,8 +132,9 @@ fn stopped<R: Threads + Wait + Sync>(
     let ran = run(rt, alloc, disk.image(), text, &[]).ran()?;
     let call = calls_at(&ran.trail, behind);
     drop(ran);
+    let call = call?.saturating_add(1);
     let disk = two_rows(rt, alloc)?;
-    let stopping = disk.image().stop_at(call?.saturating_add(1), Choice::Old);
+    let stopping = disk.image().stop_at(call, Choice::Old);
     let ran = run(rt, alloc, stopping, text, &[]).ran()?;
     Some(disk_of(ran))
 }
@@ -436,13 +438,22 @@ fn a_compaction_keeps_what_a_query_is_to_repair(rt: HostRuntime) -> Result<(), A
     let Some(disk) = prepared(&rt, alloc) else {
         panic!(rt; "not prepared")
     };
-    let steps = late_steps(alloc)?;
-    let Some(ran) = run_back(&rt, alloc, disk.image(), 0, KEPT, &steps).ran() else {
+    let steps = match late_steps(alloc) {
+        Ok(steps) => steps,
+        Err(failed) => {
+            drop(disk);
+            return Err(failed);
+        }
+    };
+    let ran = run_back(&rt, alloc, disk.image(), 0, KEPT, &steps).ran();
+    drop(steps);
+    let Some(ran) = ran else {
         panic!(rt; "not run")
     };
     let right = ran.printed.held() == KEPT_PRINTED.as_bytes();
-    let rises = rises(alloc, &ran.trail)?;
+    let rises = rises(alloc, &ran.trail);
     drop(ran);
+    let rises = rises?;
     assert!(rt;
         right && matches!(rises.as_slice(), [Some(3), None, Some(4), None]),
         "{right}"
