@@ -29,6 +29,7 @@ use Rattle.px_reply.specs.declared.refusal.Refusal.TheVariants as refusal
 use Rattle.px_values.specs.declared.limit.Limit.{Limit}
 use Rattle.px_calls.specs.declared.ticket.Receipt.{Receipt}
 use Rattle.px_deleting.specs.declared.deleted.Removed.{Removed}
+use Rattle.px_removals.specs.Removals.{AreRemovals}
 use Rattle.px_item.specs.declared.answered.After.TheVariants as next_is
 use Rattle.px_item.specs.declared.answered.Answered.{Answered}
 use Rattle.px_item.specs.declared.answered.Settings.{Settings}
@@ -104,7 +105,7 @@ module _ (sound : Type 0) (is_sound : sound) (b : Base) (pre mid later : List En
         record {
           keys = ans.shown.rows;
           selected = subst (λ (t : Table). IsQueryAnswered (tables_at b pre) answer.point.found None (asked_of (query_for t (filter_of t.columns y.filter))) ans.shown.rows) (sym same) chosen;
-          removals = h.removals;
+          removals = subst (λ (t : Table). AreRemovals t.key ans.shown.rows cs) (sym same) h.removals;
         },
       )
 

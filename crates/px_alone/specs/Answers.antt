@@ -110,7 +110,7 @@ pub record IsQueryAnswered (x : Tables) (f : Found) (scn : Option ℕ) (a : Asks
 pub record AreRowsFound (x : Tables) (f : Found) (y : Delete) (cs : List Change) : Type 0 where
   pub keys : List (List Value)
   pub selected : IsQueryAnswered x f None (asked_of (query_for f.table (filter_of f.table.columns y.filter))) keys
-  pub removals : AreRemovals keys cs
+  pub removals : AreRemovals f.table.key keys cs
 
 -- one batch of each part, each with its stamp
 abbrev pub batches : TableId → List (List Change) → List ℕ → List Act

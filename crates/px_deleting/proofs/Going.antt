@@ -3,7 +3,6 @@ use Rattle.std.proofs.Common.{ℕ, ◌≡◌, ◌≢◌, ◌≤◌, ◌<◌, ◌
 use Rattle.std.proofs.lemmas.List.{append-nil, length-append, length-drop}
 use Rattle.std.specs.List.{AllByRecursion}
 use Rattle.std.specs.List.Sorted.{IsStrictlySortedBy}
-use Rattle.px_values.specs.Order.{row_order}
 use Rattle.px_values.specs.declared.change.Change.{Change}
 use Rattle.px_values.specs.declared.name.TableId.{TableId}
 use Rattle.px_trail.specs.declared.entry.Act.{Act}
@@ -31,7 +30,7 @@ use Rattle.px_select.specs.Selecting as selecting
 use Rattle.px_select.specs.declared.run.SelectRun.{SelectRun}
 use Rattle.px_select.specs.declared.run.SelectTurn.TheVariants as selects
 use Rattle.px_select.specs.declared.run.Selected.{Selected}
-use Rattle.px_removals.specs.Removals.{AreRemovals, IsSplit}
+use Rattle.px_removals.specs.Removals.{AreRemovals, IsSplit, key_order}
 use Rattle.px_removals.proofs.Splitting.{fitting-front, fitting-rest, sorted-rest, split-more}
 use Rattle.px_deleting.specs.declared.deleted.DeleteFault.{DeleteFault}
 use Rattle.px_deleting.specs.declared.deleted.DeleteFault.TheVariants as fault
@@ -125,7 +124,7 @@ memory_is : (sound : Type 0) (p : Planned) (own : List Act) (k : Known) (a : Sel
 memory_is sound p own k a h = (tt, inr (_, _, h.1))
 
 -- all of none
-none_end : (sound : Type 0) (p : Planned) (n : ℕ) (own : List Act) (k : Known) (a : Selected) (cs : List Change) (d : Deleted) → selecting.IsSelectOutcome sound p None own k (Ok a) → AreRemovals a.shown.rows cs → cs ≡ []
+none_end : (sound : Type 0) (p : Planned) (n : ℕ) (own : List Act) (k : Known) (a : Selected) (cs : List Change) (d : Deleted) → selecting.IsSelectOutcome sound p None own k (Ok a) → AreRemovals p.table.key a.shown.rows cs → cs ≡ []
     → d.receipts.items ≡ [] → d.end ≡ Ok (record { rows = 0; first = a.first }) → IsDeleteOutcome sound p n own k d
 none_end sound p n own k a cs d h r none rs e =
     subst (λ (l : List Receipt). IsDeleteEnd sound p n own k l d.end) (sym rs)
@@ -143,7 +142,7 @@ none_end sound p n own k a cs d h r none rs e =
     }))
 
 -- the run of the next part
-next_fits : (p : Planned) (k : Known) (t : TableId) (cs : List Change) (run : BatchRun) (left : Left) → t ≡ p.table.id → IsNextRun t cs run left → IsLegal k.base k.seen → AreFitting k p.table.id.0 cs → IsStrictlySortedBy row_order (rows_of cs)
+next_fits : (p : Planned) (k : Known) (t : TableId) (cs : List Change) (run : BatchRun) (left : Left) → t ≡ p.table.id → IsNextRun t cs run left → IsLegal k.base k.seen → AreFitting k p.table.id.0 cs → IsStrictlySortedBy (key_order p.table.key) (rows_of cs)
     → length (drop 1000 cs) + 1000 * (length left.receipts.items + 1) ≤ 1000 * vec_capacity left.receipts → FitsRemoving p run left k
 next_fits p k t cs run left e n legal f s room =
     let fit : batch.FitsBatch p.table.id (take 1000 cs) batches.Beginning k = fitting-front k p.table.id.0 1000 cs f in
@@ -154,7 +153,7 @@ next_fits p k t cs run left e n legal f s room =
       fits = subst (λ (i : TableId). batch.FitsBatch i run.changes run.state k) (sym (n.table ∙ e))
           (subst (λ (l : List Change). batch.FitsBatch p.table.id l run.state k) (sym n.part) (subst (λ (b : BatchState). batch.FitsBatch p.table.id (take 1000 cs) b k) (sym n.beginning) fit));
       going = subst (λ (b : BatchState). batch.IsBatchGoing b) (sym n.beginning) tt;
-      ordered = subst (λ (l : List Change). IsStrictlySortedBy row_order (rows_of l)) (sym n.behind) (sorted-rest 1000 cs s);
+      ordered = subst (λ (l : List Change). IsStrictlySortedBy (key_order p.table.key) (rows_of l)) (sym n.behind) (sorted-rest p.table.key 1000 cs s);
       fitting = subst (λ (l : List Change). AreFitting k p.table.id.0 l) (sym n.behind) (fitting-rest k p.table.id.0 1000 cs f);
       room = subst (λ (l : List Change). length l + 1000 * (length left.receipts.items + 1) ≤ 1000 * vec_capacity left.receipts) (sym n.behind) room;
     }
@@ -174,7 +173,7 @@ first_room cs m some h = let s = some_length cs some in let d = length-drop 1000
 
 -- the first batch is begun, or nothing is to be removed, or no memory was found
 pub found-then : (sound : Type 0) (p : Planned) (k k' : Known) (run : SelectRun) (ended : QueryState) (a : Selected) (cs : List Change) (new : DeleteState) (t : DeleteTurn) → FitsFinding sound p run k
-    → selecting.SelectTurns sound run.scan.query run.scan.scn run.scan.state k ended k' (selects.Over (Ok a)) → AreRemovals a.shown.rows cs → AllByRecursion (IsChangeOf p.table) cs → IsAfterFound p.table.id cs a.first new t
+    → selecting.SelectTurns sound run.scan.query run.scan.scn run.scan.state k ended k' (selects.Over (Ok a)) → AreRemovals p.table.key a.shown.rows cs → AllByRecursion (IsChangeOf p.table) cs → IsAfterFound p.table.id cs a.first new t
     → DeleteTurns sound p (state.Finding run) k new k' t
 found-then sound p k k' run ended a cs (state.Removing next left) turn.Stepped h t r f w =
     let can = can_after k k' p t.acts t.ran h.can in

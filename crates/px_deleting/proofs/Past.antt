@@ -55,7 +55,7 @@ found-later sound p k k' first acts cs h f = record { past = f.past; was = was-l
 pub found-at : (sound : Type 0) (p : Planned) (k : Known) (first first' : ℕ) (acts : List Act) (cs : List Change) → first ≡ first' → HasFoundRows sound p k first acts cs → HasFoundRows sound p k first' acts cs
 found-at sound p k first first' acts cs e f = record { past = f.past; was = f.was; answer = f.answer; opened = f.opened ∙ e; outcome = f.outcome; removals = f.removals }
 
-pub found-now : (sound : Type 0) (p : Planned) (own : List Act) (k : Known) (a : Selected) (first : ℕ) (cs : List Change) → a.first ≡ first → IsSelectOutcome sound p None own k (Ok a) → AreRemovals a.shown.rows cs → HasFoundRows sound p k first own cs
+pub found-now : (sound : Type 0) (p : Planned) (own : List Act) (k : Known) (a : Selected) (first : ℕ) (cs : List Change) → a.first ≡ first → IsSelectOutcome sound p None own k (Ok a) → AreRemovals p.table.key a.shown.rows cs → HasFoundRows sound p k first own cs
 found-now sound p own k a first cs e h r = record { past = k; was = was-now k; answer = a; opened = e; outcome = h; removals = r }
 
 -- what the seat did since then: the same, and what came later
@@ -82,7 +82,7 @@ pub since-at : (sound : Type 0) (p : Planned) (k : Known) (first first' : ℕ) (
 unfolding found-at
 since-at sound p k first first' acts cs e f = refl
 
-pub since-now : (sound : Type 0) (p : Planned) (own : List Act) (k : Known) (a : Selected) (first : ℕ) (cs : List Change) (e : a.first ≡ first) (h : IsSelectOutcome sound p None own k (Ok a)) (r : AreRemovals a.shown.rows cs)
+pub since-now : (sound : Type 0) (p : Planned) (own : List Act) (k : Known) (a : Selected) (first : ℕ) (cs : List Change) (e : a.first ≡ first) (h : IsSelectOutcome sound p None own k (Ok a)) (r : AreRemovals p.table.key a.shown.rows cs)
     → outline (acts_by k.seat (found-now sound p own k a first cs e h r).was.more) ≡ []
 unfolding found-now was-now acts_by
 since-now sound p own k a first cs e h r = refl

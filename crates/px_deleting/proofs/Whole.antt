@@ -133,5 +133,5 @@ are-current sound t filter k first acts cs h is =
       chosen = selected.chosen;
       given = answer.given;
       current = rw (sym h.opened, sym h.outcome.3) answer.current;
-      removals = subst (λ rows. AreRemovals rows cs) answer.shown.rows h.removals;
+      removals = subst (λ rows. AreRemovals t.key rows cs) answer.shown.rows h.removals;
     }

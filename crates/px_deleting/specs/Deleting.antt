@@ -1,7 +1,6 @@
 -- What one step of a DELETE does, and what it comes to.
 use Rattle.std.specs.Prelude.{ℕ, ◌≡◌, ◌≢◌, ◌≤◌, ◌+◌, ◌*◌, Option, None, Result, Ok, Err, List, [], ◌∷◌, ◌++◌, map, length, take, drop, vec_capacity}
 use Rattle.std.specs.List.Sorted.{IsStrictlySortedBy}
-use Rattle.px_values.specs.Order.{row_order}
 use Rattle.px_values.specs.declared.change.Change.{Change}
 use Rattle.px_values.specs.declared.name.TableId.{TableId}
 use Rattle.px_tables.specs.declared.table.Table.{Table}
@@ -31,7 +30,7 @@ use Rattle.px_answers.specs.Selects.{selects}
 use Rattle.px_select.specs.Selecting as selecting
 use Rattle.px_select.specs.declared.run.SelectRun.{SelectRun}
 use Rattle.px_select.specs.declared.run.Selected.{Selected}
-use Rattle.px_removals.specs.Removals.{AreRemovals, IsSplit}
+use Rattle.px_removals.specs.Removals.{AreRemovals, IsSplit, key_order}
 use Rattle.px_deleting.specs.Asking.{planned_for}
 use Rattle.px_deleting.specs.declared.deleted.DeleteFault.{DeleteFault}
 use Rattle.px_deleting.specs.declared.deleted.DeleteFault.TheVariants as fault
@@ -59,7 +58,7 @@ pub record HasFoundRows (sound : Type 0) (p : Planned) (k : Known) (first : ℕ)
   pub answer : Selected
   pub opened : answer.first ≡ first
   pub outcome : selecting.IsSelectOutcome sound p None acts past (Ok answer)
-  pub removals : AreRemovals answer.shown.rows cs
+  pub removals : AreRemovals p.table.key answer.shown.rows cs
 
 -- the batch was begun and ended, and has this receipt
 pub record HasMadeBatch (k : Known) (t : TableId) (cs : List Change) (acts : List Act) (r : Receipt) : Type 0 where
@@ -122,7 +121,7 @@ pub record FitsRemoving (p : Planned) (run : BatchRun) (left : Left) (k : Known)
   pub left_table : left.table ≡ p.table.id
   pub fits : batch.FitsBatch run.table run.changes run.state k
   pub going : batch.IsBatchGoing run.state
-  pub ordered : IsStrictlySortedBy row_order (rows_of left.changes.items)
+  pub ordered : IsStrictlySortedBy (key_order p.table.key) (rows_of left.changes.items)
   pub fitting : AreFitting k p.table.id.0 left.changes.items
   pub room : length left.changes.items + 1000 * (length left.receipts.items + 1) ≤ 1000 * vec_capacity left.receipts
 
@@ -252,4 +251,4 @@ pub record AreCurrent (k : Known) (t : Table) (filter : Option Bound) (first : �
   pub chosen : IsPathFor (query_of (planned_for t filter)) point path
   pub given : List Given
   pub current : IsCurrent past.base past.seen (selects (planned_for t filter) point.found path.by) first (length past.seen) given
-  pub removals : AreRemovals (map (λ g. row_shown (map (λ p. p.column) t.key) g.row) given) cs
+  pub removals : AreRemovals t.key (map (λ g. row_shown (map (λ p. p.column) t.key) g.row) given) cs

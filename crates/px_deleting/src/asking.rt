@@ -1,12 +1,12 @@
 // The query by which a DELETE finds its rows.
 ghost use Rattle.std.specs.Prelude.{◌≡◌, IfOk, map};
-ghost use Rattle.px_deleting.specs.Asking.{ascending, planned_for};
+ghost use Rattle.px_deleting.specs.Asking.{planned_for};
 
 use px_bind::Query;
 use px_expr::Bound;
 use px_planned::Planned;
 use px_tables::{KeyPlace, Table};
-use px_values::{Direction, Items};
+use px_values::Items;
 use std::alloc::{AllocError, Global};
 
 /// The columns of a key.
@@ -20,21 +20,15 @@ fn columns_of(alloc: Global, key: &[KeyPlace]) -> Result<Items<u8>, AllocError>
     Ok(Items::of(columns))
 }
 
-/// The order of the values of a key.
+/// The parts of a key, which a query sorts by.
 fn order_of(alloc: Global, key: &[KeyPlace]) -> Result<Items<KeyPlace>, AllocError>
-    ensures { IfOk result (λ order. order ≡ map ascending key.now) }
+    ensures { IfOk result (λ order. order ≡ key.now) }
 {
-    let mut order = Vec::with_capacity(alloc, key.len())?;
-    for place in key {
-        order.push(KeyPlace {
-            column: place.column,
-            direction: Direction::Ascending,
-        })?;
-    }
-    Ok(Items::of(order))
+    Ok(Items::of(Vec::from_slice(alloc, key)?))
 }
 
-/// The query by which a DELETE finds its rows: of each row of the table that meets the condition the values of its key, in their order.
+/// The query by which a DELETE finds its rows: of each row of the table that meets the condition the values of its key, in the order of the
+/// key.
 pub fn planned(alloc: Global, table: Table, filter: Option<Bound>) -> Result<Planned, AllocError>
     ensures { IfOk result (λ p. p ≡ planned_for table filter) }
 {

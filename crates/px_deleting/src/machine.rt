@@ -1,7 +1,8 @@
 // A DELETE as a machine: each step makes one call.
-ghost use Rattle.std.specs.Prelude.{◌≡◌, ◌<◌, length, vec_capacity};
+ghost use Rattle.std.specs.Prelude.{◌≡◌, ◌<◌, List, length, vec_capacity};
 ghost use Rattle.std.specs.List.Sorted.{IsStrictlySortedBy};
-ghost use Rattle.px_values.specs.Order.{row_order};
+ghost use Rattle.px_tables.specs.declared.table.KeyPlace.{KeyPlace as Part};
+ghost use Rattle.px_removals.specs.Removals.{key_order};
 ghost use Rattle.px_trail.specs.Batches.{rows_of};
 ghost use Rattle.px_planned.specs.declared.planned.Planned.{Planned as Plans};
 ghost use Rattle.px_deleting.specs.Deleting.{DeleteTurns, FitsDelete, IsDeleteGoing};
@@ -58,7 +59,7 @@ fn begin(
     mut changes: VecDeque<Change>,
     first: u64,
 ) -> (DeleteState, DeleteTurn)
-    requires { IsStrictlySortedBy row_order (rows_of changes.items) }
+    requires ordered { (key : List Part) × IsStrictlySortedBy (key_order key) (rows_of changes.items) }
     ensures { IsAfterFound table changes.items first result.0 result.1 }
 {
     let rows = changes.len() as u64;
@@ -172,7 +173,7 @@ fn whole(left: Left) -> DeleteTurn
 /// Goes on after a batch. It makes no call.
 fn go_on(alloc: Global, mut left: Left, receipt: Receipt) -> (DeleteState, DeleteTurn)
     requires room { length left.receipts.items < vec_capacity left.receipts }
-    requires ordered { IsStrictlySortedBy row_order (rows_of left.changes.items) }
+    requires ordered { (key : List Part) × IsStrictlySortedBy (key_order key) (rows_of left.changes.items) }
     ensures { IsAfterBatch left receipt result.0 result.1 }
 {
     left.receipts.push_reserved(receipt);

@@ -92,7 +92,7 @@ module _ (sound : Type 0) (before : ℕ) (asked : Asked) (mine : List Act) where
     lacks_told : (r : Selected) → selecting.IsSelectOutcome sound (deletion_query j.found j.delete) None own k' (Ok r) → right.SaysRefused a refusal.Memory asked.settings → IsRight sound (plain k') before own asked.settings (seen_piece asked.piece) a
     lacks_told r out says = unread_told unread.Memory (tt, inr (_, _, out.1)) tt (inr says)
 
-    keeps_told : (r : Selected) (cs : List Change) → selecting.IsSelectOutcome sound (deletion_query j.found j.delete) None own k' (Ok r) → asked.first ≤ r.first → AreRemovals r.shown.rows cs → KeepsRows asked j.found.table cs a → IsRight sound (plain k') before own asked.settings (seen_piece asked.piece) a
+    keeps_told : (r : Selected) (cs : List Change) → selecting.IsSelectOutcome sound (deletion_query j.found j.delete) None own k' (Ok r) → asked.first ≤ r.first → AreRemovals j.found.table.key r.shown.rows cs → KeepsRows asked j.found.table cs a → IsRight sound (plain k') before own asked.settings (seen_piece asked.piece) a
     keeps_told r cs out since rows keeps =
         let here : deleting.HasFoundRows sound (deletion_query j.found j.delete) k' r.first own cs = record { past = k'; was = was-now k'; answer = r; opened = refl; outcome = out; removals = rows } in
         let found = found_plain sound (deletion_query j.found j.delete) k' r.first own cs here in

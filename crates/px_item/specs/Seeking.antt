@@ -68,7 +68,7 @@ KeepsRows asked t cs a = (a.first ≡ asked.first) × (SaysRefused a refusal.Mem
 
 -- what is told of the rows that were found
 abbrev pub KeepsFound : Asked → Table → Selected → Answered → Type 0
-KeepsFound asked t r a = ((a.first ≡ asked.first) × SaysRefused a refusal.Memory asked.settings) ⊎ ((cs : List Change) × AreRemovals r.shown.rows cs × KeepsRows asked t cs a)
+KeepsFound asked t r a = ((a.first ≡ asked.first) × SaysRefused a refusal.Memory asked.settings) ⊎ ((cs : List Change) × AreRemovals t.key r.shown.rows cs × KeepsRows asked t cs a)
 
 -- what is told of the end of the search
 abbrev pub IsSought : Asked → Statement → Table → Result Selected QueryFault → Answered → Type 0

@@ -1,19 +1,20 @@
 -- What is removed, part by part.
-use Rattle.std.proofs.Common.{ℕ, zero, suc, ◌≡◌, ◌≢◌, ◌≤◌, ◌<◌, true, false, List, [], ◌∷◌, ◌++◌, length, take, drop, refl, ap, subst, ◌∙◌, arith}
+use Rattle.std.proofs.Common.{ℕ, zero, suc, Bool, ◌≡◌, ◌≢◌, ◌≤◌, ◌<◌, ◌⊎◌, ⊎_elim, inl, inr, true, false, List, [], ◌∷◌, ◌++◌, length, take, drop, refl, sym, ap, subst, ◌∙◌, arith}
 use Rattle.std.proofs.lemmas.List.{length-take}
 use Rattle.std.specs.List.{AllByRecursion}
 use Rattle.std.specs.List.Sorted.{IsStrictlySortedBy}
-use Rattle.std.specs.Ordering.{is_eq, ordering_reverse}
-use Rattle.std.specs.declared.cmp.Ordering.{Ordering}
+use Rattle.std.specs.Ordering.{is_eq}
 use Rattle.std.specs.declared.cmp.Ordering.TheVariants.{Less}
 use Rattle.px_values.specs.Order.{row_order}
 use Rattle.px_values.specs.declared.change.Change.{Change}
 use Rattle.px_values.specs.declared.row.Value.{Value}
 use Rattle.px_trail.specs.Batches.{has, is_distinct, rows_of}
-use Rattle.px_values.proofs.ValueOrder.{row_order_total}
+use Rattle.px_values.proofs.Equal.{row_order-Decides}
+use Rattle.px_tables.specs.declared.table.KeyPlace.{KeyPlace}
 use Rattle.px_calls.specs.Known.{Known}
 use Rattle.px_calls.specs.Requires.{AreFitting, IsChangeOf}
-use Rattle.px_removals.specs.Removals.{IsSplit}
+use Rattle.px_removals.specs.Removals.{IsSplit, key_order}
+use Rattle.px_removals.proofs.KeyOrder.{other_row}
 
 -- 1. Of a list what holds of each holds of each of its beginning, and of each of the rest
 
@@ -47,35 +48,41 @@ rest-up-to (suc n) (suc i) (x ∷ xs) low end = rest-up-to n i xs (omega arith) 
 
 -- 2. Rows in order
 
-front-rows : (r : List Value) (n : ℕ) (cs : List Change) → AllByRecursion (λ y. row_order r y ≡ Less) (rows_of cs) → AllByRecursion (λ y. row_order r y ≡ Less) (rows_of (take n cs))
-front-rows r zero cs h = tt
-front-rows r (suc n) [] h = tt
-front-rows r (suc n) (c ∷ cs) h = (h.0, front-rows r n cs h.1)
+front-rows : (key : List KeyPlace) (r : List Value) (n : ℕ) (cs : List Change) → AllByRecursion (λ y. key_order key r y ≡ Less) (rows_of cs) → AllByRecursion (λ y. key_order key r y ≡ Less) (rows_of (take n cs))
+front-rows key r zero cs h = tt
+front-rows key r (suc n) [] h = tt
+front-rows key r (suc n) (c ∷ cs) h = (h.0, front-rows key r n cs h.1)
 
-pub sorted-front : (n : ℕ) (cs : List Change) → IsStrictlySortedBy row_order (rows_of cs) → IsStrictlySortedBy row_order (rows_of (take n cs))
+pub sorted-front : (key : List KeyPlace) (n : ℕ) (cs : List Change) → IsStrictlySortedBy (key_order key) (rows_of cs) → IsStrictlySortedBy (key_order key) (rows_of (take n cs))
 unfolding IsStrictlySortedBy
-sorted-front zero cs h = tt
-sorted-front (suc n) [] h = tt
-sorted-front (suc n) (c ∷ cs) h = (front-rows c.row n cs h.0, sorted-front n cs h.1)
+sorted-front key zero cs h = tt
+sorted-front key (suc n) [] h = tt
+sorted-front key (suc n) (c ∷ cs) h = (front-rows key c.row n cs h.0, sorted-front key n cs h.1)
 
-pub sorted-rest : (n : ℕ) (cs : List Change) → IsStrictlySortedBy row_order (rows_of cs) → IsStrictlySortedBy row_order (rows_of (drop n cs))
+pub sorted-rest : (key : List KeyPlace) (n : ℕ) (cs : List Change) → IsStrictlySortedBy (key_order key) (rows_of cs) → IsStrictlySortedBy (key_order key) (rows_of (drop n cs))
 unfolding IsStrictlySortedBy
-sorted-rest zero cs h = h
-sorted-rest (suc n) [] h = tt
-sorted-rest (suc n) (c ∷ cs) h = sorted-rest n cs h.1
+sorted-rest key zero cs h = h
+sorted-rest key (suc n) [] h = tt
+sorted-rest key (suc n) (c ∷ cs) h = sorted-rest key n cs h.1
+
+same-or-not : (b : Bool) → (b ≡ true) ⊎ (b ≡ false)
+same-or-not true = inl refl
+same-or-not false = inr refl
+
+-- a row that comes before another isn't found there
+not-same : (key : List KeyPlace) (r x : List Value) → key_order key r x ≡ Less → is_eq (row_order x r) ≡ false
+not-same key r x h = ⊎_elim (λ (e : is_eq (row_order x r) ≡ true). other_row (is_eq (row_order x r) ≡ false) key r x h (sym ((row_order-Decides x r).0 e))) (λ n. n) (same-or-not (is_eq (row_order x r)))
 
 -- a row that comes before each of them is none of them
-none-has : (r : List Value) (rows : List (List Value)) → AllByRecursion (λ y. row_order r y ≡ Less) rows → has rows r ≡ false
+none-has : (key : List KeyPlace) (r : List Value) (rows : List (List Value)) → AllByRecursion (λ y. key_order key r y ≡ Less) rows → has rows r ≡ false
 unfolding has
-none-has r [] h = refl
-none-has r (x ∷ rows) h =
-    let later : is_eq (row_order x r) ≡ false = ap is_eq (row_order_total.antisymm x r) ∙ ap (λ (o : Ordering). is_eq (ordering_reverse o)) h.0 in
-    rw later (none-has r rows h.1)
+none-has key r [] h = refl
+none-has key r (x ∷ rows) h = rw (not-same key r x h.0) (none-has key r rows h.1)
 
-pub sorted-distinct : (rows : List (List Value)) → IsStrictlySortedBy row_order rows → is_distinct rows ≡ true
+pub sorted-distinct : (key : List KeyPlace) (rows : List (List Value)) → IsStrictlySortedBy (key_order key) rows → is_distinct rows ≡ true
 unfolding IsStrictlySortedBy is_distinct
-sorted-distinct [] h = refl
-sorted-distinct (x ∷ rows) h = rw (none-has x rows h.0) (sorted-distinct rows h.1)
+sorted-distinct key [] h = refl
+sorted-distinct key (x ∷ rows) h = rw (none-has key x rows h.0) (sorted-distinct key rows h.1)
 
 -- 3. The next part
 

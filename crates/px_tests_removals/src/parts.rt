@@ -5,6 +5,10 @@ use px_values::{ColType, Direction, Items, Name, Row, Rows, TableId, Value, What
 use std::alloc::{AllocError, Global};
 
 fn numbers(alloc: Global) -> Result<Table, AllocError> {
+    numbers_by(alloc, Direction::Ascending)
+}
+
+fn numbers_by(alloc: Global, direction: Direction) -> Result<Table, AllocError> {
     let mut columns = Vec::new(alloc);
     columns.push(TableColumn {
         name: Name::from_str(alloc, "N")?,
@@ -14,7 +18,7 @@ fn numbers(alloc: Global) -> Result<Table, AllocError> {
     let mut key = Vec::new(alloc);
     key.push(KeyPlace {
         column: 0,
-        direction: Direction::Ascending,
+        direction,
     })?;
     Ok(Table {
         id: TableId(3),
@@ -88,6 +92,24 @@ fn they_come_in_order_and_are_removed(rt: HostRuntime) -> Result<(), AllocError>
         number = number.saturating_add(1);
     }
     assert!(rt; number == 7);
+    Ok(())
+}
+
+#[test]
+fn a_key_that_goes_down_turns_the_order(rt: HostRuntime) -> Result<(), AllocError> {
+    let alloc = rt.alloc();
+    let table = numbers_by(alloc, Direction::Descending)?;
+    assert!(rt; removals(alloc, &table, rows(alloc, 2, 1)?).is_err());
+    let mut found = Vec::new(alloc);
+    for number in 0..1_001u16 {
+        found.push(row(alloc, Value::Number(2_000 - i128::from(number)))?)?;
+    }
+    let mut left = removals(alloc, &table, Items::of(found))?;
+    drop(next_part(alloc, &mut left)?);
+    let last = next_part(alloc, &mut left)?;
+    assert!(rt;
+        matches!(last.as_slice(), [change] if matches!(change.row.as_slice(), [Value::Number(1_000)]))
+    );
     Ok(())
 }
 

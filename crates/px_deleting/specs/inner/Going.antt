@@ -54,7 +54,7 @@ IsAfterFound t cs first new t' = ⊥
 -- and of the answer
 abbrev pub IsAfterAnswer : Planned → Selected → DeleteState → DeleteTurn → Type 0
 IsAfterAnswer p a new t =
-    ((cs : List Change) × AreRemovals a.shown.rows cs × AllByRecursion (IsChangeOf p.table) cs × IsAfterFound p.table.id cs a.first new t)
+    ((cs : List Change) × AreRemovals p.table.key a.shown.rows cs × AllByRecursion (IsChangeOf p.table) cs × IsAfterFound p.table.id cs a.first new t)
     ⊎ ((new ≡ state.Over) × IsUnread unread.Memory t)
 
 -- and of a batch that has ended

@@ -8,4 +8,4 @@ pub new-requires-clause-rows : goal.new-requires-clause-rows
 new-requires-clause-rows c = subst (λ (l : List Change). length l ≤ 1000) (sym c.in-Ok.ensures.part) (short-front c.args.left.changes.items)
 
 pub new-requires-clause-distinct : goal.new-requires-clause-distinct
-new-requires-clause-distinct c = subst (λ (l : List Change). is_distinct (rows_of l) ≡ true) (sym c.in-Ok.ensures.part) (sorted-distinct (rows_of (take 1000 c.args.left.changes.items)) (sorted-front 1000 c.args.left.changes.items c.requires.ordered))
+new-requires-clause-distinct c = subst (λ (l : List Change). is_distinct (rows_of l) ≡ true) (sym c.in-Ok.ensures.part) (sorted-distinct c.requires.ordered.0 (rows_of (take 1000 c.args.left.changes.items)) (sorted-front c.requires.ordered.0 1000 c.args.left.changes.items c.requires.ordered.1))

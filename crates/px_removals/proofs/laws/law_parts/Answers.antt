@@ -10,10 +10,10 @@ pub returns-clause-rows : goal.returns-clause-rows
 returns-clause-rows c cs = short-front cs
 
 pub returns-clause-distinct : goal.returns-clause-distinct
-returns-clause-distinct c cs h = sorted-distinct (rows_of (take 1000 cs)) (sorted-front 1000 cs h)
+returns-clause-distinct c key cs h = sorted-distinct key (rows_of (take 1000 cs)) (sorted-front key 1000 cs h)
 
 pub returns-clause-left : goal.returns-clause-left
-returns-clause-left c cs h = sorted-rest 1000 cs h
+returns-clause-left c key cs h = sorted-rest key 1000 cs h
 
 pub returns-clause-fits : goal.returns-clause-fits
 returns-clause-fits c k t cs h = fitting-front k t 1000 cs h
