@@ -35,7 +35,7 @@ use Rattle.px_scan.specs.declared.machine.QueryState.{QueryState}
 use Rattle.px_scan.specs.declared.machine.QueryState.TheVariants as state
 use Rattle.px_scan.specs.declared.machine.Rest.{Rest}
 use Rattle.px_scan.specs.declared.machine.Scan.{Scan}
-use Rattle.px_scan.specs.Chains.{AreSteps, AreUnfaulted, IsUnfaulted, QueryStep, query_after}
+use Rattle.px_scan.specs.Chains.{AreEdges, AreSteps, AreUnfaulted, IsUnfaulted, QueryStep, query_after}
 use Rattle.px_scan.specs.Faults.{is_busy}
 use Rattle.px_scan.specs.Fixes.{AreFixed, AreKeepingDoubts, AreRisingDoubts, HasDoubts, HasFixedEntry, IsDoubtful, IsDue, IsFixedBy, IsFixedLater, KeepsDoubts}
 use Rattle.px_scan.specs.Turns.{AfterFix, IsQueryNew}
@@ -279,53 +279,60 @@ goes_on x r d o state.Over h by u told = inr (by told)
 moved : (f : Point → IndexVersion → Bool) (k k' : Known) (s : QueryState) → k' ≡ k → HasDoubts f k s → HasDoubts f k' s
 moved f k k' s same h = subst (λ (z : Known). HasDoubts f z s) (sym same) h
 
-entry_at_last : (sound : Type 0) (q : Query) (scn : Option ℕ) (f : Point → IndexVersion → Bool) (d : Doubt) (s : QueryState) (k : Known) (os : List QueryStep) → IsToFix s d → d.verdict ≢ Some Leave → HasDoubts f k s → AreSteps sound q scn s k os → AreKeepingDoubts k f s os → AreUnfaulted os → query_after s os ≡ state.Over → HasFixedEntry d os
-entry_at_last sound q scn f d (state.Opening rows) k os t told w h a u e = absurd t
-entry_at_last sound q scn f d (state.Looking x c) k os t told w h a u e = absurd t
-entry_at_last sound q scn f d (state.Consulting x r z) k os t told w h a u e = absurd t
-entry_at_last sound q scn f d (state.Closing x end) k os t told w h a u e = absurd t
-entry_at_last sound q scn f d state.Over k os t told w h a u e = absurd t
-entry_at_last sound q scn f d (state.Fixing x r z) k [] t told w h a u e = cc
-entry_at_last sound q scn f d (state.Settling x r z) k [] t told w h a u e = cc
-entry_at_last sound q scn f d (state.Fixing x r z) k (o ∷ os) t told w h a u e =
+entry_at_last : (sound : Type 0) (f : Point → IndexVersion → Bool) (d : Doubt) (s : QueryState) (k : Known) (os : List QueryStep) → IsToFix s d → d.verdict ≢ Some Leave → HasDoubts f k s → AreEdges sound s os → AreKeepingDoubts k f s os → AreUnfaulted os → query_after s os ≡ state.Over → HasFixedEntry d os
+entry_at_last sound f d (state.Opening rows) k os t told w h a u e = absurd t
+entry_at_last sound f d (state.Looking x c) k os t told w h a u e = absurd t
+entry_at_last sound f d (state.Consulting x r z) k os t told w h a u e = absurd t
+entry_at_last sound f d (state.Closing x end) k os t told w h a u e = absurd t
+entry_at_last sound f d state.Over k os t told w h a u e = absurd t
+entry_at_last sound f d (state.Fixing x r z) k [] t told w h a u e = cc
+entry_at_last sound f d (state.Settling x r z) k [] t told w h a u e = cc
+entry_at_last sound f d (state.Fixing x r z) k (o ∷ os) t told w h a u e =
     let own : z.verdict ≢ Some Leave = subst (λ (y : Doubt). y.verdict ≢ Some Leave) (sym t) told in
     let was = moved f k o.before (state.Fixing x r z) a.0 w in
-    elim (goes_on x r z o o.state h.1.edge (a.1.fixed was) u.0 own) [
-      | inl more ↦ later d z o os t (entry_at_last sound q scn o.doubtful z o.state o.after os more own (a.1.kept was) h.2 a.2 u.1 e)
+    elim (goes_on x r z o o.state h.0 (a.1.fixed was) u.0 own) [
+      | inl more ↦ later d z o os t (entry_at_last sound o.doubtful z o.state o.after os more own (a.1.kept was) h.1 a.2 u.1 e)
       | inr adds ↦ here d o os (subst (λ (y : Doubt). Adds o.before o.after (act.Fixed y.index y.key)) t adds)
     ]
-entry_at_last sound q scn f d (state.Settling x r z) k (o ∷ os) t told w h a u e =
+entry_at_last sound f d (state.Settling x r z) k (o ∷ os) t told w h a u e =
     let own : z.verdict ≢ Some Leave = subst (λ (y : Doubt). y.verdict ≢ Some Leave) (sym t) told in
     let was = moved f k o.before (state.Settling x r z) a.0 w in
-    later d z o os t (entry_at_last sound q scn o.doubtful z o.state o.after os (works z o.state h.1.edge u.0) own (a.1.kept was) h.2 a.2 u.1 e)
+    later d z o os t (entry_at_last sound o.doubtful z o.state o.after os (works z o.state h.0 u.0) own (a.1.kept was) h.1 a.2 u.1 e)
 
 -- where a step consulted a doubt
-one_later : (sound : Type 0) (q : Query) (scn : Option ℕ) (f : Point → IndexVersion → Bool) (old new : QueryState) (k : Known) (os : List QueryStep) → HasDoubts f k new → AreSteps sound q scn new k os → AreKeepingDoubts k f new os → AreUnfaulted os → query_after new os ≡ state.Over → IsFixedLater old new os
-one_later sound q scn f (state.Consulting x r d) (state.Fixing y r' z) k os w h a u e = λ told. entry_at_last sound q scn f z (state.Fixing y r' z) k os refl told w h a u e
-one_later sound q scn f (state.Consulting x r d) (state.Opening rows) k os w h a u e = tt
-one_later sound q scn f (state.Consulting x r d) (state.Looking y c) k os w h a u e = tt
-one_later sound q scn f (state.Consulting x r d) (state.Consulting y r' z) k os w h a u e = tt
-one_later sound q scn f (state.Consulting x r d) (state.Settling y r' z) k os w h a u e = tt
-one_later sound q scn f (state.Consulting x r d) (state.Closing p end) k os w h a u e = tt
-one_later sound q scn f (state.Consulting x r d) state.Over k os w h a u e = tt
-one_later sound q scn f (state.Opening rows) new k os w h a u e = tt
-one_later sound q scn f (state.Looking x c) new k os w h a u e = tt
-one_later sound q scn f (state.Fixing x r d) new k os w h a u e = tt
-one_later sound q scn f (state.Settling x r d) new k os w h a u e = tt
-one_later sound q scn f (state.Closing p end) new k os w h a u e = tt
-one_later sound q scn f state.Over new k os w h a u e = tt
+one_later : (sound : Type 0) (f : Point → IndexVersion → Bool) (old new : QueryState) (k : Known) (os : List QueryStep) → HasDoubts f k new → AreEdges sound new os → AreKeepingDoubts k f new os → AreUnfaulted os → query_after new os ≡ state.Over → IsFixedLater old new os
+one_later sound f (state.Consulting x r d) (state.Fixing y r' z) k os w h a u e = λ told. entry_at_last sound f z (state.Fixing y r' z) k os refl told w h a u e
+one_later sound f (state.Consulting x r d) (state.Opening rows) k os w h a u e = tt
+one_later sound f (state.Consulting x r d) (state.Looking y c) k os w h a u e = tt
+one_later sound f (state.Consulting x r d) (state.Consulting y r' z) k os w h a u e = tt
+one_later sound f (state.Consulting x r d) (state.Settling y r' z) k os w h a u e = tt
+one_later sound f (state.Consulting x r d) (state.Closing p end) k os w h a u e = tt
+one_later sound f (state.Consulting x r d) state.Over k os w h a u e = tt
+one_later sound f (state.Opening rows) new k os w h a u e = tt
+one_later sound f (state.Looking x c) new k os w h a u e = tt
+one_later sound f (state.Fixing x r d) new k os w h a u e = tt
+one_later sound f (state.Settling x r d) new k os w h a u e = tt
+one_later sound f (state.Closing p end) new k os w h a u e = tt
+one_later sound f state.Over new k os w h a u e = tt
 
-pub all_fixed : (sound : Type 0) (q : Query) (scn : Option ℕ) (f : Point → IndexVersion → Bool) (s : QueryState) (k : Known) (os : List QueryStep) → HasDoubts f k s → AreSteps sound q scn s k os → AreKeepingDoubts k f s os → AreUnfaulted os → query_after s os ≡ state.Over → AreFixed s os
-all_fixed sound q scn f s k [] w h a u e = tt
-all_fixed sound q scn f s k (o ∷ os) w h a u e =
+pub all_fixed : (sound : Type 0) (f : Point → IndexVersion → Bool) (s : QueryState) (k : Known) (os : List QueryStep) → HasDoubts f k s → AreEdges sound s os → AreKeepingDoubts k f s os → AreUnfaulted os → query_after s os ≡ state.Over → AreFixed s os
+all_fixed sound f s k [] w h a u e = tt
+all_fixed sound f s k (o ∷ os) w h a u e =
     let then = a.1.kept (moved f k o.before s a.0 w) in
-    (one_later sound q scn o.doubtful s o.state o.after os then h.2 a.2 u.1 e, all_fixed sound q scn o.doubtful o.state o.after os then h.2 a.2 u.1 e)
+    (one_later sound o.doubtful s o.state o.after os then h.1 a.2 u.1 e, all_fixed sound o.doubtful o.state o.after os then h.1 a.2 u.1 e)
+
+pub fixed_by_edges : (sound : Type 0) (f : Point → IndexVersion → Bool) (s : QueryState) (k : Known) (os : List QueryStep) → IsQueryNew s → AreEdges sound s os → AreKeepingDoubts k f s os → AreUnfaulted os → query_after s os ≡ state.Over → AreFixed s os
+fixed_by_edges sound f (state.Opening rows) k os new h a u e = all_fixed sound f (state.Opening rows) k os tt h a u e
+fixed_by_edges sound f (state.Looking x c) k os new h a u e = absurd new
+fixed_by_edges sound f (state.Consulting x r d) k os new h a u e = absurd new
+fixed_by_edges sound f (state.Fixing x r d) k os new h a u e = absurd new
+fixed_by_edges sound f (state.Settling x r d) k os new h a u e = absurd new
+fixed_by_edges sound f (state.Closing p end) k os new h a u e = absurd new
+fixed_by_edges sound f state.Over k os new h a u e = absurd new
+
+edges_of : (sound : Type 0) (q : Query) (scn : Option ℕ) (s : QueryState) (k : Known) (os : List QueryStep) → AreSteps sound q scn s k os → AreEdges sound s os
+edges_of sound q scn s k [] h = tt
+edges_of sound q scn s k (o ∷ os) h = (h.1.edge, edges_of sound q scn o.state o.after os h.2)
 
 pub fixed_from_new : (sound : Type 0) (q : Query) (scn : Option ℕ) (f : Point → IndexVersion → Bool) (s : QueryState) (k : Known) (os : List QueryStep) → IsQueryNew s → AreSteps sound q scn s k os → AreKeepingDoubts k f s os → AreUnfaulted os → query_after s os ≡ state.Over → AreFixed s os
-fixed_from_new sound q scn f (state.Opening rows) k os new h a u e = all_fixed sound q scn f (state.Opening rows) k os tt h a u e
-fixed_from_new sound q scn f (state.Looking x c) k os new h a u e = absurd new
-fixed_from_new sound q scn f (state.Consulting x r d) k os new h a u e = absurd new
-fixed_from_new sound q scn f (state.Fixing x r d) k os new h a u e = absurd new
-fixed_from_new sound q scn f (state.Settling x r d) k os new h a u e = absurd new
-fixed_from_new sound q scn f (state.Closing p end) k os new h a u e = absurd new
-fixed_from_new sound q scn f state.Over k os new h a u e = absurd new
+fixed_from_new sound q scn f s k os new h a u e = fixed_by_edges sound f s k os new (edges_of sound q scn s k os h) a u e

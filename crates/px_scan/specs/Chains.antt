@@ -12,7 +12,7 @@ use Rattle.px_gather.specs.Query.{Query}
 use Rattle.px_scan.specs.declared.answer.QueryTurn.{QueryTurn}
 use Rattle.px_scan.specs.declared.machine.QueryState.{QueryState}
 use Rattle.px_scan.specs.declared.machine.QueryState.TheVariants as state
-use Rattle.px_scan.specs.Turns.{QueryTurns}
+use Rattle.px_scan.specs.Turns.{QueryEdge, QueryTurns}
 
 -- a step: what the seat knew before and after its call, the state then, what it came to, how many rows of tables were looked at by then, and which
 -- versions of index rows were then in doubt
@@ -28,6 +28,11 @@ pub record QueryStep : Type 0 where
 abbrev pub AreSteps : Type 0 → Query → Option ℕ → QueryState → Known → List QueryStep → Type 0
 AreSteps sound q scn s k [] = Unit {0}
 AreSteps sound q scn s k (o ∷ os) = TimePasses k o.before × QueryTurns sound q scn s o.before o.state o.after o.turn × AreSteps sound q scn o.state o.after os
+
+-- which call led from each state to the next
+abbrev pub AreEdges : Type 0 → QueryState → List QueryStep → Type 0
+AreEdges sound s [] = Unit {0}
+AreEdges sound s (o ∷ os) = QueryEdge sound s o.before o.state o.after × AreEdges sound o.state os
 
 abbrev pub query_after : QueryState → List QueryStep → QueryState
 query_after s [] = s

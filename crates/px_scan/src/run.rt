@@ -2,6 +2,7 @@
 ghost use Rattle.std.specs.Prelude.{◌≡◌, true};
 ghost use Rattle.px_calls.specs.Requires.{IsScn};
 ghost use Rattle.px_scan.specs.Bounds.{Spends};
+ghost use Rattle.px_scan.specs.Courses.{IsCourse};
 ghost use Rattle.px_scan.specs.Fixes.{KeepsDoubts};
 ghost use Rattle.px_scan.specs.Looking.{IsByIndex, Looks};
 ghost use Rattle.px_scan.specs.Turns.{FitsScan, IsBound, IsQueryGoing, IsQueryNew, QueryTurns, RanQuery};
@@ -78,7 +79,8 @@ impl<Q: Asks> QueryRun<Q> {
     }
 }
 
-/// Answers a query: as of a timestamp exactly the rows of the table then, and else a current answer, if what was opened is sound.
+/// Answers a query: as of a timestamp exactly the rows of the table then, and else a current answer, if what was opened is sound. Where nobody else acts and it
+/// goes by an index, it looks at no more than two rows of tables for each doubt that it finds and one for each refused repair, and has each doubt repaired.
 pub fn run_query<R: Wait, Q: Asks + Drop, S: Steps>(
     rt: &R,
     alloc: Global,
@@ -88,7 +90,8 @@ pub fn run_query<R: Wait, Q: Asks + Drop, S: Steps>(
 ) -> Result<Answer, QueryFault>
     requires bound { IsBound (S.known s.old) (Q.asked query) }
     requires scn { IsScn scn }
-    ensures { RanQuery S.sound (Q.asked query) scn (S.known s.old) (S.known s.new) result }
+    ensures ran { RanQuery S.sound (Q.asked query) scn (S.known s.old) (S.known s.new) result }
+    ensures course { IsCourse S.sound (Q.asked query) scn (S.known s.old) (S.looked s.old) (S.known s.new) (S.looked s.new) result }
 {
     let mut run = QueryRun::new(alloc, query, scn);
     'steps: for _ in rt.forever() {
