@@ -1,13 +1,14 @@
 -- Which groups and indexes are read at a point.
-use Rattle.std.specs.Prelude.{◌≡◌, ◌≢◌, ◌≤◌, ℕ, List, slice_get, Some}
+use Rattle.std.specs.Prelude.{◌≡◌, ◌≢◌, ◌≤◌, ℕ, List, Option, slice_get, Some}
 use Rattle.std.specs.List.{AllByRecursion}
 use Rattle.px_calls.specs.declared.query.FoundKey.{FoundKey}
+use Rattle.px_calls.specs.declared.query.Path.{Path}
 use Rattle.px_calls.specs.declared.query.Point.{Point}
 use Rattle.px_shown.specs.Told.{IsIndexAt, IsPointOfTable, reach_of}
 use Rattle.px_values.specs.declared.name.IndexId.{IndexId}
 use Rattle.px_group.specs.declared.group.Group.{Group}
 use Rattle.px_group.specs.declared.group.IndexRegion.{IndexRegion}
-use Rattle.px_reading.specs.Versions.{AreOfVersions}
+use Rattle.px_reading.specs.Versions.{AreAllGiven, AreOfVersions}
 
 -- the table stands as it was when the point was opened, and isn't forgotten there
 pub record IsReadAt (g : Group) (p : Point) : Type 0 where
@@ -20,13 +21,15 @@ pub record IsPartAt (p : Point) (i : IndexId) (x : IndexRegion) : Type 0 where
   pub at : IsIndexAt p x.index
   pub born : x.index.birth ≤ reach_of p
 
--- each key is of the version of it that the point sees in the group's index of this number
-pub record AreOfIndex (g : Group) (p : Point) (i : IndexId) (fs : List FoundKey) : Type 0 where
+-- What a look gives of the versions that the point sees in the group's index of this number: each key is of its version, and each key on the path,
+-- past `after` and not past `next`, is given where it has one
+pub record AreOfIndex (g : Group) (p : Point) (path : Path) (i : IndexId) (after : Option (List ℕ)) (fs : List FoundKey) (next : Option (List ℕ)) : Type 0 where
   pub place : ℕ
   pub index : IndexRegion
   pub at : slice_get g.indexes.items place ≡ Some index
   pub part : IsPartAt p i index
   pub versions : AreOfVersions index (reach_of p) fs
+  pub whole : AreAllGiven index (reach_of p) path after fs next
 
 -- the group has no index of this number
 abbrev pub GroupLacksIndex : IndexId → Group → Type 0

@@ -15,6 +15,7 @@ ghost use Rattle.px_trail.specs.Trail.{Base};
 ghost use Rattle.px_trail.specs.declared.entry.Entry.{Entry as Entries};
 ghost use Rattle.px_group.specs.Group.{IsRightGroup, IsShownBy, IsTallied};
 ghost use Rattle.px_reading.specs.Looked.{HasLooked};
+ghost use Rattle.px_pointreads.specs.Due.{IsDueOf};
 ghost use Rattle.px_pointreads.specs.Points.{IsReadAt};
 
 use crate::places::{index_place, reach};
@@ -41,6 +42,7 @@ pub fn consult<D: Disk>(
     requires doubt { CanConsult p.now d.now }
     ensures row { IfOk result (λ c. (b : Base) (index : ℕ → IndexForm) (es : List Entries) (v : GroupData) (hs : List HeldBatch) → IsTallied b es group.old hs → IsShownBy b index es group.old v hs → IsHolder b es p.now d.now.index d.now.key c.row) }
     ensures leave { IfOk result (λ c. (b : Base) (es : List Entries) (hs : List HeldBatch) → IsLegal b es → IsTallied b es group.old hs → (c.verdict ≡ Leave) ↔ IsInFlight b es d.now) }
+    ensures due { IfOk result (λ c. IsDueOf group.old p.now d.now c.verdict) }
     ensures counted { group.new.rows.looked ≤ group.old.rows.looked + 1 }
     ensures looked { HasLooked group.old group.new }
     ensures undamaged { (file place : ℕ) → result ≢ Err (LookFaults.Damaged file place) }

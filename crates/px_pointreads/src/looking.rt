@@ -38,7 +38,8 @@ fn bytes_if(key: &Option<Key>) -> Option<&[u8]>
     }
 }
 
-/// The next keys of the path past `after`. By an index, a key is sure exactly where its version is verified, and no row of the table is looked at.
+/// The next keys of the path past `after`. By an index, they are those of which the point sees a version, a key is sure exactly where that is verified, and
+/// no row of the table is looked at.
 ///
 /// The disk is only read. It is refused with `Memory` where an index doesn't stand as it was, too; of a point that a server opened it does.
 pub fn look<D: Disk>(
@@ -54,7 +55,7 @@ pub fn look<D: Disk>(
     requires path { CanLook p.now path.now }
     ensures keys { IfOk result (λ n. Shows p.now path.now after.now n.found n.next) }
     ensures rows { IfOk result (λ n. (b : Base) (index : ℕ → IndexForm) (es : List Entries) (v : GroupData) (hs : List HeldBatch) → IsTallied b es group.old hs → IsShownBy b index es group.old v hs → ShowsRows b es p.now path.now after.now n.found n.next) }
-    ensures versions { IfOk result (λ n. (i : Number) → path.now.by ≡ ByIndex i → AreOfIndex group.old p.now i n.found) }
+    ensures versions { IfOk result (λ n. (i : Number) → path.now.by ≡ ByIndex i → AreOfIndex group.old p.now path.now i after.now n.found n.next) }
     ensures counted { IfOk result (λ n. HasCountedBy group.old group.new path.now.by (length n.found)) }
     ensures looked { HasLooked group.old group.new }
     ensures no_row { (i : Number) → path.now.by ≡ ByIndex i → group.new.rows ≡ group.old.rows }

@@ -32,11 +32,17 @@ use Rattle.px_shown.specs.Told.{IsIndexAt, IsPointOfTable, reach_of}
 use Rattle.px_shown.proofs.KeyLooks.{keys_shown}
 use Rattle.px_shown.proofs.OwnKeys.{spells_rows}
 use Rattle.px_shown.proofs.Points.{look_keys, look_rows}
+use Rattle.px_reading.specs.Versions.{AreAllGiven}
 use Rattle.px_reading.proofs.Looked.{all_at, got, part_at}
+use Rattle.px_reading.proofs.Versions.{all_given}
 
 pub ok_map : {T E : Type 0} (P Q : T → Type 0) → ((x : T) → P x → Q x) → (r : Result T E) → IfOk r P → IfOk r Q
 ok_map P Q f (Ok x) h = f x h
 ok_map P Q f (Err e) h = tt
+
+pub ok_both : {T E : Type 0} (P Q R : T → Type 0) → ((x : T) → P x → Q x → R x) → (r : Result T E) → IfOk r P → IfOk r Q → IfOk r R
+ok_both P Q R f (Ok x) h k = f x h k
+ok_both P Q R f (Err e) h k = tt
 
 pub part_plain : (g : Group) → IsRightGroup g → (place : ℕ) → place < length g.indexes.items → (d part : IndexRegion) → part ≡ get_or g.indexes.items place d → IsPlainRegion (read_of part.region)
 part_plain g right place there d part is = keys_plain g.table part.index (read_of part.region) (subst (IsRightPart g.table) (sym is) (all_at (IsRightPart g.table) g.indexes.items right.parts place there d)).keys
@@ -67,6 +73,9 @@ module _ (g : Group) (right : IsRightGroup g) (low : List ℕ) (high after : Opt
 
       pub keys_found : (p : Point) → p.found.table ≡ g.table → IsIndexAt p x.index → (path : Path) → path.by ≡ ByIndex x.index.id → path.low ≡ low → path.high ≡ high → Shows p path after fs next
       keys_found p table index path by from to = keys_shown g.table x.index p table index (value_at (read_of x.region)) point path by after fs next (next_at path from to)
+
+      pub whole_found : (path : Path) → path.low ≡ low → path.high ≡ high → AreAllGiven x point path after fs next
+      whole_found path from to = all_given g.table x (part_at (IsRightPart g.table) g.indexes.items right.parts place x at) point path after fs next (next_at path from to)
 
       pub index_found : (b : Base) (index : ℕ → IndexForm) (es : List Entry) (v : GroupData) (hs : List HeldBatch) → IsShownBy b index es g v hs → x.index.state ≡ Active → (p : Point) → IsPointOfTable g.table p → IsIndexAt p x.index → reach_of p ≡ point → max x.index.birth (horizon_of b g.table.id.0 es) ≤ point
           → (path : Path) → path.by ≡ ByIndex x.index.id → path.low ≡ low → path.high ≡ high → ShowsRows b es p path after fs next

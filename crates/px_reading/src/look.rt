@@ -19,7 +19,7 @@ ghost use Rattle.px_group.specs.declared.group.IndexRegion.{IndexRegion as Part}
 ghost use Rattle.px_shown.specs.Told.{IsIndexAt, IsPointOfTable, reach_of};
 ghost use Rattle.px_looks.specs.Counted.{HasCounted};
 ghost use Rattle.px_reading.specs.Looked.{HasCountedAt, HasLooked};
-ghost use Rattle.px_reading.specs.Versions.{AreOfVersions};
+ghost use Rattle.px_reading.specs.Versions.{AreAllGiven, AreOfVersions};
 
 use px_group::Group;
 use px_looks::NextKeys;
@@ -81,6 +81,7 @@ pub fn look_keys<D: Disk>(
     ensures keys { IfOk result (λ n. (x : Part) → slice_get group.old.indexes.items place ≡ Some x → (p : PointData) → p.found.table ≡ group.old.table → IsIndexAt p x.index → (path : PathData) → path.by ≡ ByIndex x.index.id → path.low ≡ low.now → path.high ≡ option_copied high.entry → Shows p path (option_copied after.entry) n.found n.next) }
     ensures rows { IfOk result (λ n. (x : Part) → slice_get group.old.indexes.items place ≡ Some x → (b : Base) (index : ℕ → IndexForm) (es : List Entries) (v : GroupData) (hs : List HeldBatch) → IsShownBy b index es group.old v hs → x.index.state ≡ Active → (p : PointData) → IsPointOfTable group.old.table p → IsIndexAt p x.index → reach_of p ≡ point → max x.index.birth (horizon_of b group.old.table.id.0 es) ≤ point → (path : PathData) → path.by ≡ ByIndex x.index.id → path.low ≡ low.now → path.high ≡ option_copied high.entry → ShowsRows b es p path (option_copied after.entry) n.found n.next) }
     ensures versions { IfOk result (λ n. (x : Part) → slice_get group.old.indexes.items place ≡ Some x → AreOfVersions x point n.found) }
+    ensures whole { IfOk result (λ n. (x : Part) → slice_get group.old.indexes.items place ≡ Some x → (path : PathData) → path.low ≡ low.now → path.high ≡ option_copied high.entry → AreAllGiven x point path (option_copied after.entry) n.found n.next) }
     ensures counted { IfOk result (λ n. HasCountedAt group.old.indexes.items group.new.indexes.items place (length n.found)) }
     ensures looked { HasLooked group.old group.new }
     ensures no_row { group.new.rows ≡ group.old.rows }

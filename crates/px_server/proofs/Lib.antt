@@ -17,6 +17,7 @@ pub mod Defines
 pub mod DownKept
 pub mod DownSteps
 pub mod Drawn
+pub mod Dues
 pub mod Elsewhere
 pub mod Ended
 pub mod Ends

@@ -19,7 +19,7 @@ use Rattle.px_calls.specs.declared.query.Held.{Held}
 use Rattle.px_calls.specs.declared.query.Path.{Path}
 use Rattle.px_calls.specs.declared.query.Point.{Point}
 use Rattle.px_calls.specs.declared.query.Verdict.{Verdict}
-use Rattle.px_calls.specs.declared.query.Verdict.TheVariants.{Leave}
+use Rattle.px_calls.specs.declared.query.Verdict.TheVariants.{Leave, Verify, Retire, Erase}
 use Rattle.px_forms.specs.Indexes.{IndexForm}
 use Rattle.px_groupworld.specs.Group.{GroupData}
 use Rattle.px_openbatches.specs.Pending.{HeldBatch}
@@ -32,6 +32,7 @@ use Rattle.px_indexrow.specs.declared.doubt.Repair.TheVariants as repairs
 use Rattle.px_group.specs.Group.{IsShownBy, IsTallied}
 use Rattle.px_group.specs.declared.group.Group.{Group}
 use Rattle.px_pointreads.specs.Counted.{HasCountedBy}
+use Rattle.px_pointreads.specs.Due.{verdict_as}
 use Rattle.px_pointreads.specs.Points.{AreOfIndex, IsReadAt}
 use Rattle.px_repairs.proofs.Handing.{got_some}
 use Rattle.px_server.specs.Kept.{AreShown, HasShown, HasTallied, forms_in}
@@ -47,13 +48,13 @@ pub read_at : (p : Point) (groups xs : List Group) (place : ℕ) (g d : Group) �
 read_at p groups xs place g d same l read at = read g (ap (λ (ys : List Group). slice_get ys place) same ∙ got_some groups place d g (inside groups xs place same l) at)
 
 -- the keys that it found by an index
-pub versions_at : (p : Point) (groups xs : List Group) (place : ℕ) (g d : Group) → xs ≡ groups → place < length xs → ((h : Group) → slice_get xs place ≡ Some h → IsReadAt h p) → g ≡ get_or groups place d → (i : IndexId) (found fs : List FoundKey) → fs ≡ found → AreOfIndex g p i found → AreOfIndexAt groups p i fs
-versions_at p groups xs place g d same l read at i found fs is of = record {
+pub versions_at : (p : Point) (groups xs : List Group) (place : ℕ) (g d : Group) → xs ≡ groups → place < length xs → ((h : Group) → slice_get xs place ≡ Some h → IsReadAt h p) → g ≡ get_or groups place d → (path : Path) (i : IndexId) (after : Option (List ℕ)) (found fs : List FoundKey) → fs ≡ found → (next end : Option (List ℕ)) → end ≡ next → AreOfIndex g p path i after found next → AreOfIndexAt groups p path i after fs end
+versions_at p groups xs place g d same l read at path i after found fs is next end ends of = record {
   place = place;
   group = g;
   at = got_some groups place d g (inside groups xs place same l) at;
   read = read_at p groups xs place g d same l read at;
-  of = subst (AreOfIndex g p i) (sym is) of;
+  of = subst (λ (k : Option (List ℕ)). AreOfIndex g p path i after fs k) (sym ends) (subst (λ (ks : List FoundKey). AreOfIndex g p path i after ks next) (sym is) of);
 }
 
 -- and by which region they are counted
@@ -70,6 +71,13 @@ counted_at p groups xs place g d g' same l read at by found fs is counted = reco
 
 some_same : {A : Type 0} (a b : A) → Some a ≡ Some b → a ≡ b
 some_same a b e = cc
+
+-- a version is left alone exactly by the repair that leaves it
+pub leave_as : (verdict : Verdict) (repair : Repair) → verdict ≡ verdict_as repair → (verdict ≡ Leave) ↔ (repair ≡ repairs.Leave)
+leave_as verdict repairs.Leave e = (λ h. refl, λ h. e)
+leave_as verdict repairs.Verify e = (λ h. absurd (let z : ◌≡◌ {A = Verdict} Verify Leave = sym e ∙ h in cc), λ h. absurd (let z : ◌≡◌ {A = Repair} repairs.Verify repairs.Leave = h in cc))
+leave_as verdict repairs.Retire e = (λ h. absurd (let z : ◌≡◌ {A = Verdict} Retire Leave = sym e ∙ h in cc), λ h. absurd (let z : ◌≡◌ {A = Repair} repairs.Retire repairs.Leave = h in cc))
+leave_as verdict repairs.Erase e = (λ h. absurd (let z : ◌≡◌ {A = Verdict} Erase Leave = sym e ∙ h in cc), λ h. absurd (let z : ◌≡◌ {A = Repair} repairs.Erase repairs.Leave = h in cc))
 
 module _ (k : Known) (legal : IsLegal k.base k.seen) (closed : Option ℕ) (closing : closing_call k.seen ≡ closed) (running : closed ≡ None) where
   pub finds : Finds k k

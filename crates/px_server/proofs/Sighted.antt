@@ -16,13 +16,13 @@ use Rattle.px_trail.specs.declared.entry.Entry.{Entry}
 use Rattle.px_calls.specs.Doubtful.{AreDoubtful, IndexVersion, IsForRoom, version_of}
 use Rattle.px_calls.specs.Looks.{AreDoubtsOf}
 use Rattle.px_calls.specs.declared.fault.StepFault.{StepFault}
-use Rattle.px_calls.specs.declared.query.By.{By}
 use Rattle.px_calls.specs.declared.query.By.TheVariants.{Index as ByIndex}
 use Rattle.px_calls.specs.declared.query.Doubt.{Doubt}
 use Rattle.px_calls.specs.declared.query.Fixing.{Fixing}
 use Rattle.px_calls.specs.declared.query.Fixing.TheVariants as fixing
 use Rattle.px_calls.specs.declared.query.FoundKey.{FoundKey}
 use Rattle.px_calls.specs.declared.query.FoundKey.TheVariants.{InDoubt}
+use Rattle.px_calls.specs.declared.query.Path.{Path}
 use Rattle.px_calls.specs.declared.query.Point.{Point}
 use Rattle.px_looks.specs.Found.{at_key}
 use Rattle.px_looks.specs.Versions.{version_at}
@@ -38,6 +38,7 @@ use Rattle.px_group.specs.declared.group.IndexRegion.{IndexRegion}
 use Rattle.px_merge.specs.Kept.{IsKeptList}
 use Rattle.px_forgotten.specs.Forgotten.{at_horizon}
 use Rattle.px_defined.specs.Defined.{HasOnce}
+use Rattle.px_reading.specs.Doubts.{version_seen}
 use Rattle.px_reading.specs.Looked.{AreLookedAt, HasLooked}
 use Rattle.px_reading.specs.Versions.{IsOfVersion, version_to}
 use Rattle.px_reading.proofs.Looked.{looked_on, part_at}
@@ -139,8 +140,8 @@ doubt_is : (o : Option KeyVersion) (d : Doubt) → IsOfVersion o (InDoubt d) →
 doubt_is None d of = absurd of
 doubt_is (Some v) d of = both (nat_eq v.stamp d.stamp) (not v.verified) (eq-eqb v.stamp d.stamp (sym of.1)) (ap not of.0)
 
-found_table : (p : Point) (g : Group) (d : Doubt) (fs : List FoundKey) → IsReadAt g p → AreOfIndex g p d.index fs → IsAmong (InDoubt d) fs → table_has_doubt p (version_of d) g ≡ true
-found_table p g d fs read of among = (let
+found_table : (p : Point) (g : Group) (d : Doubt) (path : Path) (after : Option (List ℕ)) (fs : List FoundKey) (next : Option (List ℕ)) → IsReadAt g p → AreOfIndex g p path d.index after fs next → IsAmong (InDoubt d) fs → table_has_doubt p (version_of d) g ≡ true
+found_table p g d path after fs next read of among = (let
     x = of.index
     in let
     doubt : is_doubt d.stamp (version_to x d.key (reach_of p)) ≡ true = doubt_is (version_to x d.key (reach_of p)) d (of.versions (InDoubt d) among)
@@ -151,13 +152,13 @@ found_table p g d fs read of among = (let
     (both (nat_le g.horizon (reach_of p)) (list_any (has_doubt p (version_of d)) g.indexes.items) (le_test g.horizon (reach_of p) read.above) (at_any (has_doubt p (version_of d)) g.indexes.items of.place x of.at here)))
 
 pub found_doubts : (p : Point) (groups xs : List Group) (place : ℕ) (g d0 g' : Group) → xs ≡ groups → place < length xs → ((h : Group) → slice_get xs place ≡ Some h → IsReadAt h p) → g ≡ get_or groups place d0 → HasLooked g g'
-    → (by : By) (found fs : List FoundKey) → fs ≡ found → AreDoubtsOf p.found by found → ((i : IndexId) → by ≡ ByIndex i → AreOfIndex g p i found) → AreDoubtful (have_doubt (slice_set groups place g')) p fs
-found_doubts p groups xs place g d0 g' same l read at looked by found fs is doubts versions d among = (let
+    → (path : Path) (after : Option (List ℕ)) (found fs : List FoundKey) → fs ≡ found → (next : Option (List ℕ)) → AreDoubtsOf p.found path.by found → ((i : IndexId) → path.by ≡ ByIndex i → AreOfIndex g p path i after found next) → AreDoubtful (have_doubt (slice_set groups place g')) p fs
+found_doubts p groups xs place g d0 g' same l read at looked path after found fs is next doubts versions d among = (let
     here : IsAmong (InDoubt d) found = subst (IsAmong (InDoubt d)) is among
     in let
-    by_index : by ≡ ByIndex d.index = (doubts d here).0
+    by_index : path.by ≡ ByIndex d.index = (doubts d here).0
     in let
-    old : table_has_doubt p (version_of d) g ≡ true = found_table p g d found (read_at p groups xs place g d0 same l read at) (versions d.index by_index) here
+    old : table_has_doubt p (version_of d) g ≡ true = found_table p g d path after found next (read_at p groups xs place g d0 same l read at) (versions d.index by_index) here
     in at_any (table_has_doubt p (version_of d)) (slice_set groups place g') place g' (got_set groups place g' (inside groups xs place same l)) (looked_table p (version_of d) g g' looked ∙ old))
 
 -- ---- a doubt, in the tables
@@ -291,6 +292,12 @@ module _ {D : Type 0} (d : Ghosts D) (b : Base) (sound premise : Type 0) (began 
     stands_here = stands_at g p (version_of q) mine.0 (subst (λ (h : Group). h.horizon ≤ reach_of p) same_group has.above) (subst (λ (x : IndexRegion). x.index.birth ≤ reach_of p) same_part has.born)
         (subst (λ (x : IndexRegion). is_doubt q.stamp (version_to x q.key (reach_of p)) ≡ true) same_part has.doubt)
 
+    -- and is seen of its key
+    seen_here : (x : IndexRegion) → slice_get g.indexes.items at ≡ Some x → version_seen g x q.key q.stamp ≢ None
+    seen_here x of = λ none. (let
+        same : mine.0 ≡ x = some_part mine.0 x (sym mine.1 ∙ of)
+        in false≢true (sym (ap (is_doubt q.stamp) none) ∙ subst (λ (y : IndexRegion). stands_in g y q.key q.stamp ≡ true) same stands_here))
+
     -- also in the table as it was looked at
     not_gone : HasLooked g g' → IsJudged g' at q.key q.stamp judged.Gone → ⊥
     not_gone looked gone = (let
@@ -298,6 +305,11 @@ module _ {D : Type 0} (d : Ghosts D) (b : Base) (sound premise : Type 0) (began 
         in let
         same : stands_in g' y.0 q.key q.stamp ≡ stands_in g mine.0 q.key q.stamp = seen_alike g g' mine.0 y.0 looked.horizon y.1.1.index y.1.1.region.alike.store q.key q.stamp
         in false≢true (sym (gone y.0 y.1.0) ∙ (same ∙ stands_here)))
+
+  -- a version that is in doubt at a point is seen of its key
+  pub doubt_seen : (at : ℕ) (q : Doubt) → at < length g.indexes.items → ((x : IndexRegion) → slice_get g.indexes.items at ≡ Some x → x.index.id ≡ q.index) → (p : Point) → have_doubt groups p (version_of q) ≡ true
+      → (x : IndexRegion) → slice_get g.indexes.items at ≡ Some x → version_seen g x q.key q.stamp ≢ None
+  doubt_seen at q there named p had = seen_here at q there named p (places_of groups p (version_of q) had)
 
   -- ---- what is answered of a repair
 

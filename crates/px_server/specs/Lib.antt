@@ -14,6 +14,7 @@ pub mod Shown
 pub mod Stamps
 pub mod Started
 pub mod Upkeep
+pub mod Verdicts
 pub mod inner
 pub mod CallsLeft
 pub mod Sights

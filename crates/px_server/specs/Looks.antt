@@ -1,8 +1,9 @@
 -- What a look at a point reads.
-use Rattle.std.specs.Prelude.{◌≡◌, ℕ, List, slice_get, Some, sum_by}
+use Rattle.std.specs.Prelude.{◌≡◌, ℕ, List, Option, slice_get, Some, sum_by}
 use Rattle.px_values.specs.declared.name.IndexId.{IndexId}
 use Rattle.px_calls.specs.declared.query.By.{By}
 use Rattle.px_calls.specs.declared.query.FoundKey.{FoundKey}
+use Rattle.px_calls.specs.declared.query.Path.{Path}
 use Rattle.px_calls.specs.declared.query.Point.{Point}
 use Rattle.px_region.specs.declared.region.Region.{Region}
 use Rattle.px_group.specs.declared.group.Group.{Group}
@@ -13,13 +14,14 @@ use Rattle.px_pointreads.specs.Points.{AreOfIndex, IsReadAt}
 abbrev pub rows_in : Group → Region
 rows_in g = g.rows
 
--- each key is of the version of it that the point sees in its table's index of this number: sure exactly where the version is verified
-pub record AreOfIndexAt (groups : List Group) (p : Point) (i : IndexId) (fs : List FoundKey) : Type 0 where
+-- The keys are those of which the point sees a version in its table's index of this number, sure exactly where the version is verified: none of the path
+-- is left out that is past `after` and not past `next`
+pub record AreOfIndexAt (groups : List Group) (p : Point) (path : Path) (i : IndexId) (after : Option (List ℕ)) (fs : List FoundKey) (next : Option (List ℕ)) : Type 0 where
   pub place : ℕ
   pub group : Group
   pub at : slice_get groups place ≡ Some group
   pub read : IsReadAt group p
-  pub of : AreOfIndex group p i fs
+  pub of : AreOfIndex group p path i after fs next
 
 -- how many rows of tables were looked at, in all
 abbrev pub rows_looked : List Group → ℕ

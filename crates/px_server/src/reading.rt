@@ -1,5 +1,5 @@
 // Reading at a point.
-ghost use Rattle.std.specs.Prelude.{◌≡◌, ◌≤◌, ◌+◌, ◌↔◌, IfErr, IfOk, List, None, Some, length, map};
+ghost use Rattle.std.specs.Prelude.{◌≡◌, ◌≤◌, ◌+◌, IfErr, IfOk, List, None, Some, length, map};
 ghost use Rattle.px_calls.specs.Calls.{DidConsult, DidLook};
 ghost use Rattle.px_calls.specs.Causes.{Refuses, read_cause};
 ghost use Rattle.px_calls.specs.Counts.{HasRisenBy};
@@ -9,10 +9,12 @@ ghost use Rattle.px_values.specs.declared.row.Value.{Value as ColumnValue};
 ghost use Rattle.px_calls.specs.declared.query.By.TheVariants.{Index as ByIndex, Table as ByTable};
 ghost use Rattle.px_calls.specs.declared.query.Point.{Point as Points};
 ghost use Rattle.px_values.specs.declared.name.IndexId.{IndexId as Number};
+ghost use Rattle.px_pointreads.specs.Due.{verdict_as};
 ghost use Rattle.px_server.specs.Looks.{AreOfIndexAt, HasCountedOf, rows_in, rows_looked};
 ghost use Rattle.px_server.specs.DeviceCalls.{Blames, MakesNoCall};
 ghost use Rattle.px_server.specs.Shown.{known_by};
 ghost use Rattle.px_server.specs.Sights.{have_doubt};
+ghost use Rattle.px_server.specs.Verdicts.{HasDueVerdict};
 
 use crate::missing::{told, unread};
 use crate::{Founded, Server};
@@ -45,7 +47,7 @@ fn held(row: Option<Row>, at: u64) -> Option<Held>
 
 /// The verdict of a repair.
 fn verdict_of(repair: Repair) -> Verdict
-    ensures { (result ≡ Verdict.Leave) ↔ (repair ≡ Repair.Leave) }
+    ensures { result ≡ verdict_as repair }
 {
     match repair {
         Repair::Leave => Verdict::Leave,
@@ -56,12 +58,13 @@ fn verdict_of(repair: Repair) -> Verdict
 }
 
 impl<D: CountsCalls, C: Clock, B: Based + Founded> Server<D, C, B> {
-    /// The next keys of the path past `after`. By an index, a key is sure exactly where its version is verified, and no row of a table is looked at.
+    /// The next keys of the path past `after`. By an index, they are those of which the point sees a version, a key is sure exactly where that is verified, and
+    /// no row of a table is looked at.
     pub fn look(&mut self, p: &Point, path: &Path, after: &Option<Key>) -> Result<Chunk, StepFault>
         requires open { HasOpen (known_by B.base B.damaged self.old) p.now }
         requires path { CanLook p.now path.now }
         ensures ok { IfOk result (DidLook B.sound (known_by B.base B.damaged self.old) (known_by B.base B.damaged self.new) p.now path.now after.now) }
-        ensures versions { IfOk result (λ c. (i : Number) → path.now.by ≡ ByIndex i → AreOfIndexAt self.old.groups p.now i c.found) }
+        ensures versions { IfOk result (λ c. (i : Number) → path.now.by ≡ ByIndex i → AreOfIndexAt self.old.groups p.now path.now i after.now c.found c.next) }
         ensures no_row { (i : Number) → path.now.by ≡ ByIndex i → map rows_in self.new.groups ≡ map rows_in self.old.groups }
         ensures risen { IfOk result (λ c. path.now.by ≡ ByTable → HasRisenBy (length c.found) (rows_looked self.old.groups) (rows_looked self.new.groups)) }
         ensures counted { IfOk result (λ c. HasCountedOf self.old.groups self.new.groups p.now path.now.by (length c.found)) }
@@ -92,11 +95,13 @@ impl<D: CountsCalls, C: Clock, B: Based + Founded> Server<D, C, B> {
         }
     }
 
-    /// The row of a doubt at the point, where its key is the doubt's. Leaves a verdict in the doubt.
+    /// The row of a doubt at the point, where its key is the doubt's. Leaves a verdict in the doubt: what is due of its version now, if what was
+    /// opened is sound.
     pub fn consult(&mut self, p: &Point, d: &mut Doubt) -> Result<Option<Held>, StepFault>
         requires open { HasOpen (known_by B.base B.damaged self.old) p.now }
         requires doubt { CanConsult p.now d.old }
         ensures ok { IfOk result (DidConsult B.sound (known_by B.base B.damaged self.old) (known_by B.base B.damaged self.new) p.now d.old d.new) }
+        ensures due { IfOk result (λ _. B.sound → HasDueVerdict B.base self.old.entries self.old.groups d.new) }
         ensures same { IfErr result (λ f. d.new ≡ d.old) }
         ensures counted { rows_looked self.new.groups ≤ rows_looked self.old.groups + 1 }
         ensures doubts { (q : Points) → (v : IndexVersion) → have_doubt self.new.groups q v ≡ have_doubt self.old.groups q v }

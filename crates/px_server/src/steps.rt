@@ -107,7 +107,7 @@ impl<D: CountsCalls, C: Clock, B: Based + Founded> Steps for Server<D, C, B> {
         ensures looked_each { IfOk result (λ c. (known_by B.base B.damaged self.old).alone ≡ true → path.now.by ≡ ByTable → HasRisenBy (length c.found) (rows_looked self.old.groups) (rows_looked self.new.groups)) }
         ensures doubts { IfOk result (λ c. (known_by B.base B.damaged self.old).alone ≡ true → B.sound → AreDoubtful (have_doubt self.new.groups) p.now c.found) }
         ensures ok { IfOk result (DidLook B.sound (known_by B.base B.damaged self.old) (known_by B.base B.damaged self.new) p.now path.now after.now) }
-        ensures versions { IfOk result (λ c. (i : Number) → path.now.by ≡ ByIndex i → AreOfIndexAt self.old.groups p.now i c.found) }
+        ensures versions { IfOk result (λ c. (i : Number) → path.now.by ≡ ByIndex i → AreOfIndexAt self.old.groups p.now path.now i after.now c.found c.next) }
         ensures no_row { (i : Number) → path.now.by ≡ ByIndex i → map rows_in self.new.groups ≡ map rows_in self.old.groups }
         ensures counted { IfOk result (λ c. HasCountedOf self.old.groups self.new.groups p.now path.now.by (length c.found)) }
         ensures refused { IfErr result (Refuses (read_cause B.sound) (known_by B.base B.damaged self.old) (known_by B.base B.damaged self.new)) }

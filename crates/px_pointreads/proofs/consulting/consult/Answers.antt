@@ -8,6 +8,7 @@ use Rattle.px_reading.proofs.Looks.{ok_map}
 use Rattle.px_shown.specs.Told.{IsHolder}
 use Rattle.px_values.specs.declared.name.IndexId.{IndexId}
 use Rattle.px_pointreads.proofs.Asked.{above_rows, key_at, found_in, not_looked, pending_leave, there_is}
+use Rattle.px_pointreads.proofs.Dues.{due_of_doubt}
 use Rattle.px_pointreads.proofs.consulting.consult.Goals as goal
 
 pub consult-requires-clause-key : goal.consult-requires-clause-key
@@ -31,6 +32,12 @@ returns-in-Some-clause-leave g c = ok_map _ _ (λ o h b es hs legal tallied.
     pending_leave c.args.group.now c.in-Some.place z.0 c.as_slice.result.now c.args.d.now o.verdict c.as_slice.ensures (h z.0 z.1)
     (in_flight b es c.args.group.now hs tallied c.in-Some.place z.0 z.1 right.table c.args.d.now (sym part.id) key)
     (flight_pending b es c.args.group.now hs tallied c.in-Some.place z.0 z.1 right.table c.args.d.now (sym part.id) key (λ y is ended. (batch_sound b es c.args.group.now.table.id.0 c.args.d.now.stamp y legal is).ended ended)))) c.consult.result c.consult.ensures.leave
+
+pub returns-in-Some-clause-due : goal.returns-in-Some-clause-due
+returns-in-Some-clause-due g c = ok_map _ _ (λ o h.
+    (let f = found_in c.args.p.now c.args.d.now.index c.args.group.now.indexes.items c.deref.result.now c.in-Some.place c.deref.ensures.value c.in-Some.ensures.within c.in-Some.ensures.part in
+    let z = there_is c.args.group.now.indexes.items c.in-Some.place f.within in
+    due_of_doubt c.args.group.now c.args.p.now c.args.d.now c.in-Some.place z.0 z.1 (f.part z.0 z.1) o.verdict c.as_slice.result.now c.as_slice.ensures (h z.0 z.1))) c.consult.result c.consult.ensures.due
 
 pub returns-in-None-clause-looked : goal.returns-in-None-clause-looked
 returns-in-None-clause-looked g c = not_looked c.args.group.now

@@ -4,8 +4,8 @@ use Rattle.px_calls.specs.declared.query.By.TheVariants.{Index as ByIndex}
 use Rattle.px_values.specs.declared.name.IndexId.{IndexId}
 use Rattle.px_calls.specs.declared.query.By.{By}
 use Rattle.px_reading.proofs.Looked.{looked_on}
-use Rattle.px_reading.proofs.Looks.{ok_map}
-use Rattle.px_reading.specs.Versions.{AreOfVersions}
+use Rattle.px_reading.proofs.Looks.{ok_both, ok_map}
+use Rattle.px_reading.specs.Versions.{AreAllGiven, AreOfVersions}
 use Rattle.px_pointreads.specs.Counted.{HasCountedBy}
 use Rattle.px_pointreads.specs.Points.{IsPartAt}
 use Rattle.px_pointreads.proofs.Asked.{above_keys, active_at, found_in, index_is, no_index, not_looked, there_is}
@@ -33,17 +33,19 @@ returns-in-Some-clause-rows g c = ok_map _ _ (λ n h b index es v hs tallied sho
     (above_keys c.args.group.now c.args.p.now c.requires.at c.in-Index.index z.0 part b es hs tallied c.reach-in-Some.result c.reach-in-Some.ensures) c.args.path.now by (sym c.as_slice-low.ensures) (sym c.bytes_if-high.ensures)))) c.look_keys.result c.look_keys.ensures.rows
 
 pub returns-in-Some-clause-versions : goal.returns-in-Some-clause-versions
-returns-in-Some-clause-versions g c = ok_map _ _ (λ n h i by.
+returns-in-Some-clause-versions g c = ok_both _ _ _ (λ n h w i by.
     (let f = found_in c.args.p.now c.in-Index.index c.args.group.now.indexes.items c.deref.result.now c.in-Some.place c.deref.ensures.value c.in-Some.ensures.within c.in-Some.ensures.part in
     let z = there_is c.args.group.now.indexes.items c.in-Some.place f.within in
     let same : c.in-Index.index ≡ i = index_is c.in-Index.index i (sym c.in-Index.is ∙ by) in
+    let whole = subst (λ (o : Option (List ℕ)). AreAllGiven z.0 c.reach-in-Some.result c.args.path.now o n.found n.next) c.bytes_if-past.ensures (w z.0 z.1 c.args.path.now (sym c.as_slice-low.ensures) (sym c.bytes_if-high.ensures)) in
     record {
       place = c.in-Some.place;
       index = z.0;
       at = z.1;
       part = subst (λ (j : IndexId). IsPartAt c.args.p.now j z.0) same (f.part z.0 z.1);
       versions = subst (λ (s : ℕ). AreOfVersions z.0 s n.found) c.reach-in-Some.ensures (h z.0 z.1);
-    })) c.look_keys.result c.look_keys.ensures.versions
+      whole = subst (λ (s : ℕ). AreAllGiven z.0 s c.args.path.now c.args.after.now n.found n.next) c.reach-in-Some.ensures whole;
+    })) c.look_keys.result c.look_keys.ensures.versions c.look_keys.ensures.whole
 
 pub returns-in-Table-clause-versions : goal.returns-in-Table-clause-versions
 returns-in-Table-clause-versions g c = ok_map _ _ (λ n h i by. absurd (no_index i (sym c.in-Table.is ∙ by))) c.look_rows.result c.look_rows.ensures.keys

@@ -1,7 +1,7 @@
 use Rattle.std.specs.Option.{option_copied}
 use Rattle.std.proofs.Common.{refl, ◌∙◌}
 use Rattle.px_reading.proofs.Looked.{got, looked_index, no_look}
-use Rattle.px_reading.proofs.Looks.{index_found, keys_found, ok_map, part_plain}
+use Rattle.px_reading.proofs.Looks.{index_found, keys_found, ok_map, part_plain, whole_found}
 use Rattle.px_reading.proofs.Versions.{versions_found}
 use Rattle.px_reading.proofs.look.look_keys.Goals as goal
 
@@ -16,6 +16,9 @@ returns-clause-rows g c = ok_map _ _ (λ n h x at. index_found c.args.group.now 
 
 pub returns-clause-versions : goal.returns-clause-versions
 returns-clause-versions g c = ok_map _ _ (λ n h x at. versions_found c.args.group.now.table x c.index_mut-part.result.now (c.index_mut-part.ensures.value ∙ got c.args.group.now.indexes.items c.args.place x _ at) c.args.low.now (option_copied c.args.high) (option_copied c.args.after) c.args.point n.found n.next h) c.look_keys.result c.look_keys.ensures.next
+
+pub returns-clause-whole : goal.returns-clause-whole
+returns-clause-whole g c = ok_map _ _ (λ n h x at path from to. whole_found c.args.group.now c.requires.right c.args.low.now (option_copied c.args.high) (option_copied c.args.after) c.args.point n.found n.next c.args.place c.requires.there _ c.index_mut-part.result.now c.index_mut-part.ensures.value h x at path from to) c.look_keys.result c.look_keys.ensures.next
 
 pub returns-clause-looked : goal.returns-clause-looked
 returns-clause-looked g c = record {

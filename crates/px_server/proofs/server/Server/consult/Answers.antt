@@ -8,10 +8,12 @@ use Rattle.px_group.specs.declared.group.Group.{Group}
 use Rattle.px_server.specs.Looks.{rows_looked}
 use Rattle.px_server.specs.Shown.{Shown, known_by, shown_of}
 use Rattle.px_server.specs.Sights.{have_doubt}
+use Rattle.px_server.specs.Verdicts.{HasDueVerdict}
+use Rattle.px_server.proofs.Dues.{due_left}
 use Rattle.px_server.proofs.Found.{closed_by}
 use Rattle.px_server.proofs.Lists.{all_at, sum_set}
 use Rattle.px_server.proofs.Looked.{looked_kept}
-use Rattle.px_server.proofs.ReadAt.{did_consult, inside, no_memory, read_at}
+use Rattle.px_server.proofs.ReadAt.{did_consult, inside, leave_as, no_memory, read_at}
 use Rattle.px_server.proofs.OnlyRead.{read_kept}
 use Rattle.px_server.proofs.Released.{none_of}
 use Rattle.px_server.proofs.Sighted.{looked_table, put_tables}
@@ -85,8 +87,20 @@ returns-in-Ok-clause-ok g c =
     (subst (λ (es : List Entry). DidConsult g.B.Founded.sound (known_by b g.B.Based.damaged v) (known_by b g.B.Based.damaged (record v { entries = es })) c.args.p.now c.args.d.now (record c.args.d.now { verdict = Some c.verdict_of.result }) c.held.result) (sym same)
     (did_consult (known_by b g.B.Based.damaged v) told.legal s.closed told.closing running g.B.Founded.sound s.standing.indexes s.groups.items c.in-Some-point_place.place c.index_mut-group.result.now l (sym c.index_mut-group.ensures.value) (λ given. k.shown given running)
     (all_at (HasTallied b s.trail.entries) s.groups.items c.in-Some-point_place.place c.index_mut-group.result.now l (sym c.index_mut-group.ensures.value) (k.each.tallied running))
-    c.args.p.now c.args.d.now c.verdict_of.result c.in-Ok.consulted.verdict c.verdict_of.ensures c.held.result c.in-Ok.consulted.row c.held.ensures.none
+    c.args.p.now c.args.d.now c.verdict_of.result c.in-Ok.consulted.verdict (leave_as c.verdict_of.result c.in-Ok.consulted.verdict c.verdict_of.ensures) c.held.result c.in-Ok.consulted.row c.held.ensures.none
     (λ r e. c.held.ensures.some r e ∙ ap (λ (n : ℕ). Some (record { row = r; at = n })) (c.len.ensures ∙ ap (length {A = Entry}) same)) c.in-Ok.ensures.row c.in-Ok.ensures.leave))
+
+-- ---- what is due
+
+pub returns-in-Ok-clause-due : goal.returns-in-Ok-clause-due
+returns-in-Ok-clause-due g c =
+    let s = c.self.inside in
+    let b = g.B.Based.base in
+    let running : s.closed ≡ None = none_of s.closed (λ x is. search rules) in
+    let l : c.in-Some-point_place.place < length s.groups.items = inside s.groups.items c.deref.result.now c.in-Some-point_place.place c.deref.ensures.value c.in-Some-point_place.ensures.within in
+    subst (λ (u : Shown). g.B.Founded.sound → HasDueVerdict b u.entries u.groups (record c.args.d.now { verdict = Some c.verdict_of.result })) c.self.view_is
+    (due_left g.D.Disk b g.B.Founded.sound g.B.Founded.premise g.B.Founded.began s.disk s.catalog s.standing s.groups.items s.trail s.late s.closed c.self.invariant.0 running c.in-Some-point_place.place c.index_mut-group.result.now l (sym c.index_mut-group.ensures.value)
+    c.args.p.now c.args.d.now c.in-Ok.consulted.verdict c.in-Ok.ensures.due c.verdict_of.result c.verdict_of.ensures)
 
 pub returns-in-Ok-clause-counted : goal.returns-in-Ok-clause-counted
 returns-in-Ok-clause-counted g c =

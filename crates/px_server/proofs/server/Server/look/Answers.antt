@@ -92,9 +92,9 @@ returns-in-Ok-clause-ok g c =
 pub returns-in-Ok-clause-versions : goal.returns-in-Ok-clause-versions
 returns-in-Ok-clause-versions g c =
     let s = c.self.inside in
-    (λ i by. subst (λ (u : Shown). AreOfIndexAt u.groups c.args.p.now i c.chunk.result.found) c.self.view_is
+    (λ i by. subst (λ (u : Shown). AreOfIndexAt u.groups c.args.p.now c.args.path.now i c.args.after.now c.chunk.result.found c.chunk.result.next) c.self.view_is
     (versions_at c.args.p.now s.groups.items c.deref.result.now c.in-Some-point_place.place c.index_mut-group.result.now _ c.deref.ensures.value c.in-Some-point_place.ensures.within c.in-Some-point_place.ensures.read c.index_mut-group.ensures.value
-    i c.in-Ok.next.found c.chunk.result.found c.chunk.ensures.0 (c.in-Ok.ensures.versions i by)))
+    c.args.path.now i c.args.after.now c.in-Ok.next.found c.chunk.result.found c.chunk.ensures.0 c.in-Ok.next.next c.chunk.result.next c.chunk.ensures.1.0 (c.in-Ok.ensures.versions i by)))
 
 pub returns-in-Ok-clause-no_row : goal.returns-in-Ok-clause-no_row
 returns-in-Ok-clause-no_row g c = λ i by.
@@ -131,7 +131,7 @@ pub returns-in-Ok-clause-doubts : goal.returns-in-Ok-clause-doubts
 returns-in-Ok-clause-doubts g c =
     let s = c.self.inside in
     (found_doubts c.args.p.now s.groups.items c.deref.result.now c.in-Some-point_place.place c.index_mut-group.result.now _ c.look.new.group c.deref.ensures.value c.in-Some-point_place.ensures.within c.in-Some-point_place.ensures.read c.index_mut-group.ensures.value c.look.ensures.looked
-    c.args.path.now.by c.in-Ok.next.found c.chunk.result.found c.chunk.ensures.0 c.in-Ok.ensures.keys.doubts c.in-Ok.ensures.versions)
+    c.args.path.now c.args.after.now c.in-Ok.next.found c.chunk.result.found c.chunk.ensures.0 c.in-Ok.next.next c.in-Ok.ensures.keys.doubts c.in-Ok.ensures.versions)
 
 -- ---- the calls of the disk
 
