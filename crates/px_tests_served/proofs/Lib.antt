@@ -1,3 +1,4 @@
+mod Beside
 mod Serving
 mod Sights
 mod Uses

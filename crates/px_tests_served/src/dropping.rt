@@ -1,18 +1,16 @@
 // An index that is to be dropped while its table is in use.
-ghost use Rattle.std.specs.Prelude.{◌≡◌, ℕ, [], true, IfErr, IfOk, OnOk};
+ghost use Rattle.std.specs.Prelude.{◌≡◌, ℕ, [], true, IfErr, OnOk};
 ghost use Rattle.px_trail.specs.Batches.{Closing, Marking, Verifying, Writing};
 ghost use Rattle.px_calls.specs.Known.{Sees};
 ghost use Rattle.px_calls.specs.Requires.{TicketIn};
 ghost use Rattle.px_calls.specs.declared.fault.StepFault.TheVariants.{InUse};
 
-use crate::making::order;
 use crate::scripts::told_first;
 use crate::served::{Case, Wrong, run};
-use crate::stepping::{settle, table_for};
+use crate::stepping::{begun, settle};
 use px_calls::{Definition, Made, Marks, Point, StepFault, Steps, Ticket, Verifies, Writes};
 use px_seat::Single;
-use px_tests_making::Batch;
-use px_values::{IndexId, Name, TableId};
+use px_values::{IndexId, TableId};
 use std::alloc::Global;
 use std::sync::Wait;
 use std::thread::Threads;
@@ -153,28 +151,6 @@ fn dropped_behind_a_point<S: Single>(s: &mut S) -> Result<(), Wrong>
     dropped(s, entries.saturating_add(3))
 }
 
-/// Begins a batch of one row.
-fn begun<S: Steps>(alloc: Global, s: &mut S) -> Result<Ticket, Wrong>
-    ensures { IfOk result (λ t. TicketIn (S.known s.new) t Marking) }
-{
-    let Ok(name) = Name::from_str(alloc, "ORDERS") else {
-        return Err(Wrong::NoMemory);
-    };
-    let Some(Batch { changes }) = order(alloc, 1, "bo", 5) else {
-        return Err(Wrong::NoBatch);
-    };
-    let Some(table) = table_for(s, &name, &changes) else {
-        drop(changes);
-        return Err(Wrong::NoTable);
-    };
-    let begun = s.begin(table, &changes);
-    drop(changes);
-    match begun {
-        Ok(ticket) => Ok(ticket),
-        Err(_) => Err(Wrong::NotMade),
-    }
-}
-
 /// While a point is open beside the batch, both are counted.
 fn with_a_point<S: Steps>(s: &mut S, t: &Ticket) -> Result<(), Wrong>
     requires { TicketIn (S.known s.old) t.now Marking }
@@ -248,7 +224,7 @@ fn dropped_behind_a_batch<S: Steps>(alloc: Global, s: &mut S) -> Result<(), Wron
         return Err(Wrong::NotSettled);
     }
     let entries = s.seen();
-    let mut ticket = begun(alloc, s)?;
+    let mut ticket = begun(alloc, s, "bo", 5)?;
     if let Err(wrong) = under_a_batch(s, &mut ticket) {
         let Ticket { table: _, stamp: _ } = ticket;
         return Err(wrong);

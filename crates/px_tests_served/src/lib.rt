@@ -1,5 +1,6 @@
 //! Steps that no session makes, by bare calls on a server over a folder in memory: a repair whose point is closed before it, which comes when its version was
-//! forgotten; a batch that is to begin when its region is full; and an index that is to be dropped while a point or a batch of its table is open.
+//! forgotten; a batch that is to begin when its region is full; an index that is to be dropped while a point or a batch of its table is open; and a batch
+//! that is to write a row which an earlier one is still to write.
 #![tactic(auto)]
 
 #[cfg(test)]
@@ -16,3 +17,5 @@ mod scripts;
 mod served;
 #[cfg(test)]
 mod stepping;
+#[cfg(test)]
+mod waiting;

@@ -8,6 +8,7 @@ use crate::dropping::{AGAIN, Use, again_printed, dropped_behind, made};
 use crate::full::filled;
 use crate::late::{is_absent, late, met};
 use crate::scripts::is_told_behind;
+use crate::waiting::{ASKED, ASKING, met_in_turn};
 use px_opening::{Opened, open};
 use px_outside::{Clock, CountsCalls, Disk, FixedClock, MemDisk, Metered};
 use px_seat::Based;
@@ -26,6 +27,8 @@ pub enum Case {
     Late,
     /// An index is to be dropped while its table is in use.
     InUse(Use),
+    /// A batch waits for an earlier one.
+    Waiting,
 }
 
 /// What was otherwise than it is to be.
@@ -53,6 +56,8 @@ pub enum Wrong {
     NotInUse,
     NotDropped,
     NotRefused,
+    NotWaiting,
+    NotFound,
 }
 
 /// Runs the late repair on a server with which nothing was done.
@@ -105,6 +110,31 @@ fn run_in_use<
     }
 }
 
+/// Runs two batches of one row on a server with which nothing was done.
+fn run_waiting<
+    R: Threads + Wait + Sync,
+    D: CountsCalls + Drop + Send,
+    C: Clock + Drop + Send,
+    B: Based + Founded + Send + Sync,
+>(rt: &R, alloc: Global, server: Server<D, C, B>) -> Result<(), Wrong>
+    requires { server.entries ≡ [] }
+{
+    let (mut server, is_made) = made(rt, alloc, server);
+    if !is_made {
+        drop(server);
+        return Err(Wrong::NotPrepared);
+    }
+    if let Err(wrong) = met_in_turn(alloc, &mut server) {
+        drop(server);
+        return Err(wrong);
+    }
+    if is_told_behind(rt, alloc, server, ASKING, ASKED) {
+        Ok(())
+    } else {
+        Err(Wrong::NotFound)
+    }
+}
+
 /// Runs a case on a server with which nothing was done.
 fn run_on<
     R: Threads + Wait + Sync,
@@ -123,6 +153,7 @@ fn run_on<
         }
         Case::Late => run_late(rt, alloc, server),
         Case::InUse(used) => run_in_use(rt, alloc, server, used),
+        Case::Waiting => run_waiting(rt, alloc, server),
     }
 }
 

@@ -1,12 +1,17 @@
 // Calls of steps.
-ghost use Rattle.std.specs.Prelude.{◌≡◌, ◌≢◌, ◌≤◌, [], true, length, IfSome};
-ghost use Rattle.px_trail.specs.Batches.{is_distinct, rows_of};
-ghost use Rattle.px_calls.specs.Requires.{AreFitting};
+ghost use Rattle.std.specs.Prelude.{◌≡◌, ◌≢◌, ◌≤◌, [], true, length, IfOk, IfSome};
+ghost use Rattle.px_trail.specs.Batches.{Marking, is_distinct, rows_of};
+ghost use Rattle.px_calls.specs.Known.{Sees};
+ghost use Rattle.px_calls.specs.Requires.{AreFitting, TicketIn};
+ghost use Rattle.px_tests_served.specs.Beside.{LeavesAll};
 
+use crate::making::order;
+use crate::served::Wrong;
 use px_batch::{BatchRun, BatchTurn};
 use px_calls::{Receipt, StepFault, Steps, Ticket, Work};
 use px_tests_making::{Batch, are_fitting};
 use px_values::{Changes, Name, TableId};
+use std::alloc::Global;
 use std::sync::Wait;
 
 /// A batch that was made, and in how many calls.
@@ -62,9 +67,12 @@ fn make_fitting<R: Wait, S: Steps>(
 /// The table that has the name, where the changes are of its rows.
 #[tactic(auto, using(px_tests_making::proofs::Fitting::fitting))]
 pub fn table_for<S: Steps>(s: &mut S, name: &Name, changes: &Changes) -> Option<TableId>
-    ensures { IfSome result (λ t. AreFitting (S.known s.new) t.0 changes.now) }
+    ensures fits { IfSome result (λ t. AreFitting (S.known s.new) t.0 changes.now) }
+    ensures sees { IfSome result (λ t. Sees (S.known s.old) (S.known s.new)) }
 {
-    let found = s.find(name).ok()?;
+    let Ok(found) = s.find(name) else {
+        return None;
+    };
     let table = found.table.id;
     let is_fitting = are_fitting(&found.table, changes.as_slice());
     drop(found);
@@ -79,6 +87,34 @@ pub fn make<R: Wait, S: Steps>(rt: &R, s: &mut S, name: &Name, batch: Batch) -> 
         return None;
     };
     make_fitting(rt, s, table, changes)
+}
+
+/// Begins a batch of row 1 of ORDERS.
+pub fn begun<S: Steps>(
+    alloc: Global,
+    s: &mut S,
+    customer: &str,
+    amount: i128,
+) -> Result<Ticket, Wrong>
+    ensures ticket { IfOk result (λ t. TicketIn (S.known s.new) t Marking) }
+    ensures others { IfOk result (λ t. LeavesAll (S.known s.old) (S.known s.new)) }
+{
+    let Ok(name) = Name::from_str(alloc, "ORDERS") else {
+        return Err(Wrong::NoMemory);
+    };
+    let Some(Batch { changes }) = order(alloc, 1, customer, amount) else {
+        return Err(Wrong::NoBatch);
+    };
+    let Some(table) = table_for(s, &name, &changes) else {
+        drop(changes);
+        return Err(Wrong::NoTable);
+    };
+    let begun = s.begin(table, &changes);
+    drop(changes);
+    match begun {
+        Ok(ticket) => Ok(ticket),
+        Err(_) => Err(Wrong::NotMade),
+    }
 }
 
 /// Why a batch of the table that has the name doesn't begin.
