@@ -6,3 +6,4 @@ pub mod Right
 pub mod Taking
 pub mod Expected
 pub mod Made
+pub mod Sizes

@@ -47,7 +47,7 @@ use Rattle.px_calls.specs.declared.ticket.Verifies.TheVariants as verifies
 use Rattle.px_calls.specs.declared.ticket.Writes.{Writes}
 use Rattle.px_calls.specs.declared.ticket.Writes.TheVariants as writes
 use Rattle.px_calls.specs.Known.{Known, Sees, Adds, IsRunning}
-use Rattle.px_calls.specs.Causes.{ClosedBy, HasLongKey, stamp_at}
+use Rattle.px_calls.specs.Causes.{ClosedBy, HasLongKey, WritesManyBytes, WritesManyCells, stamp_at}
 use Rattle.px_calls.specs.Looks.{IsRowAt, Shows, ShowsRows, key_by}
 use Rattle.px_calls.specs.Requires.{TicketIn, base_owners}
 
@@ -116,6 +116,8 @@ pub record DidBegin (sound : Type 0) (k k' : Known) (t : TableId) (cs : List Cha
   pub stamp : ticket.stamp ≤ most_of bound.Stamps
   pub trail : counted_bytes k'.seen ≤ most_of bound.Trail
   pub short : sound → HasLongKey k'.base adds.between.seen t.0 cs → ⊥
+  pub few : sound → WritesManyCells k'.base adds.between.seen t.0 cs → ⊥
+  pub light : sound → WritesManyBytes k'.base adds.between.seen t.0 cs → ⊥
 
 abbrev pub DidMark : Known → Known → Ticket → Marks → Type 0
 DidMark k k' t marks.More = Finds k k'

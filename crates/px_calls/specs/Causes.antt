@@ -27,6 +27,7 @@ use Rattle.px_calls.specs.declared.definition.Definition.TheVariants as d
 use Rattle.px_calls.specs.declared.fault.StepFault.{StepFault}
 use Rattle.px_calls.specs.declared.fault.StepFault.TheVariants.{NameExists, NoTable, NoIndex, Limit, Busy, NotReady, InUse, NotYet, BelowHorizon, ReadFault, WriteFault, Damaged, Closed, Memory}
 use Rattle.px_calls.specs.Known.{Known, Sees, Adds, IsRunning}
+use Rattle.px_calls.specs.Sizes.{WritesTooMuch}
 
 -- A refusal has its cause after exactly what the seat has then seen. ReadFault and WriteFault add the entry that tells it;
 -- Closed comes where the server is closed, and the others where it isn't
@@ -214,12 +215,20 @@ pub record HasLongKey (b : Base) (es : List Entry) (t : ℕ) (cs : List Change) 
   pub among : IsAmong change cs
   pub long : IsLong (spelled (columns_on (table_path table)) change.row) ⊎ IsLongIndexed b es table change
 
--- The limits of a batch. That a key is too long is told of rows, where what was opened is sound. Log and Region stand for room that
--- only a flush could make
+-- a batch writes more than 8,192 cells in the table or in an index that is maintained
+abbrev pub WritesManyCells : Base → List Entry → ℕ → List Change → Type 0
+WritesManyCells b es t cs = WritesTooMuch (λ sizes. length sizes) bound.Cells (catalogue_of b es) (shape_of b es t) (λ r. expected_now b es t r) t cs
+
+-- it writes more than 8,388,608 bytes of them
+abbrev pub WritesManyBytes : Base → List Entry → ℕ → List Change → Type 0
+WritesManyBytes b es t cs = WritesTooMuch (λ sizes. sum_by (λ n. n) sizes) bound.Bytes (catalogue_of b es) (shape_of b es t) (λ r. expected_now b es t r) t cs
+
+-- The limits of a batch. Of keys, cells and bytes they are told of rows, where what was opened is sound. Log and Region stand for room that only a flush
+-- could make
 abbrev pub batch_limit : Type 0 → ℕ → List Change → Bound → Known → Type 0
 batch_limit sound t cs bound.Key k = sound → HasLongKey k.base k.seen t cs
-batch_limit sound t cs bound.Cells k = Unit {0}
-batch_limit sound t cs bound.Bytes k = Unit {0}
+batch_limit sound t cs bound.Cells k = sound → WritesManyCells k.base k.seen t cs
+batch_limit sound t cs bound.Bytes k = sound → WritesManyBytes k.base k.seen t cs
 batch_limit sound t cs bound.Stamps k = most_of bound.Stamps ≤ last_of k.base t k.seen
 batch_limit sound t cs bound.Trail k = most_of bound.Trail < counted_bytes k.seen + sum_by counted_change cs
 batch_limit sound t cs bound.Log k = Unit {0}

@@ -1,5 +1,6 @@
 pub mod Known
 pub mod Requires
+pub mod Sizes
 pub mod Causes
 pub mod Looks
 pub mod Calls

@@ -90,6 +90,8 @@ define_shared (d.DropIndex t i) f k h = h
 
 limit_shared : (sound : Type 0) (t : ℕ) (cs : List Change) (which : Bound) (k : Known) → batch_limit sound t cs which k → batch_limit sound t cs which (shared k)
 limit_shared sound t cs bound.Key k h = h
+limit_shared sound t cs bound.Cells k h = h
+limit_shared sound t cs bound.Bytes k h = h
 limit_shared sound t cs which k h = h
 
 pub begin_shared : (sound : Type 0) (t : ℕ) (cs : List Change) → IsShared (begin_cause sound t cs)
@@ -149,6 +151,8 @@ begin-shared sound k a c t cs x apart h j = record {
   stamp = j.stamp;
   trail = j.trail;
   short = j.short;
+  few = j.few;
+  light = j.light;
 }
 
 pub mark-grew : (k k' : Known) (t : Ticket) (m : Marks) → k.alone ≡ true → DidMark k k' t m → Grew k k'

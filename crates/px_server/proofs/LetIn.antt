@@ -1,25 +1,37 @@
 -- A batch is let in: the group is right before and after.
-use Rattle.std.proofs.Common.{◌≡◌, ◌≢◌, ◌≤◌, ℕ, true, List, [], length, sym, ap, subst, ◌∙◌}
+use Rattle.std.proofs.Common.{◌≡◌, ◌≢◌, ◌≤◌, ℕ, true, List, [], length, inl, inr, sym, ap, subst, ◌∙◌, arith}
 use Rattle.std.proofs.lemmas.List.{length-map}
+use Rattle.px_values.specs.Limits.{most_of}
 use Rattle.px_values.specs.declared.change.Change.{Change}
+use Rattle.px_values.specs.declared.limit.Limit.TheVariants as bound
 use Rattle.px_tables.specs.declared.table.Table.{Table}
 use Rattle.px_trail.specs.Batches.{is_distinct, rows_of}
 use Rattle.px_forms.specs.Indexes.{IndexForm}
 use Rattle.px_phases.specs.Batch.{AllFit, BatchData}
 use Rattle.px_phases.specs.Phases.{close_parts, mark_parts}
 use Rattle.px_group.specs.Group.{IsRightGroup, most_rows}
-use Rattle.px_group.specs.Room.{HasRooms}
+use Rattle.px_group.specs.Room.{HasRooms, bytes_at, bytes_of_rows, cells_at, cells_of_rows}
 use Rattle.px_group.specs.declared.group.Group.{Group}
 use Rattle.px_beginning.specs.Admits.{Admits, HasRoomsWith}
 use Rattle.px_beginning.specs.Begins.{IsBatchOf}
 use Rattle.px_beginning.specs.Leaves.{KeepsRooms, LeavesGroup, TakesRooms}
 use Rattle.px_beginning.specs.Reads.{form_at, index_forms}
-use Rattle.px_beginning.specs.Rooms.{AreRoomsOf, fresh_batch}
+use Rattle.px_beginning.specs.Rooms.{AreRoomsOf, PassesAt, fresh_batch, no_room}
+use Rattle.px_beginning.specs.declared.preparing.Prepared.{Prepared}
 use Rattle.px_beginning.proofs.Leaves.{alike_count, batch_after, right_after}
 use Rattle.px_beginning.proofs.Promised.{rooms_kept, rooms_taken}
 use Rattle.px_server.specs.Beginning.{IsReady, LetsIn}
 use Rattle.px_server.specs.declared.readying.Ready.{Ready}
 use Rattle.px_server.proofs.Left.{left_then}
+
+-- rooms that are let in pass no limit
+few_rooms : (n : ℕ) (p : Prepared) → AreRoomsOf n p → PassesAt cells_of_rows cells_at (most_of bound.Cells) n p.batch → ⊥
+few_rooms n p r (inl many) = absurd (let e = r.rows.0 in let f = r.few.0 in omega (arith, e, f, many))
+few_rooms n p r (inr z) = absurd (let e = (r.indexes z.0 z.1.0).0 in let c = r.count_is in let l = z.1.0 in let f = r.few.1 z.0 no_room (omega (arith, c, l)) in let many = z.1.1 in omega (arith, e, f, many))
+
+light_rooms : (n : ℕ) (p : Prepared) → AreRoomsOf n p → PassesAt bytes_of_rows bytes_at (most_of bound.Bytes) n p.batch → ⊥
+light_rooms n p r (inl many) = absurd (let e = r.rows.1 in let f = r.light.0 in omega (arith, e, f, many))
+light_rooms n p r (inr z) = absurd (let e = (r.indexes z.0 z.1.0).1 in let c = r.count_is in let l = z.1.0 in let f = r.light.1 z.0 no_room (omega (arith, c, l)) in let many = z.1.1 in omega (arith, e, f, many))
 
 -- letting a batch in keeps a group right
 abbrev pub KeepsRight : Type 0
@@ -48,6 +60,9 @@ module _ (g read taken g' : Group) (right : IsRightGroup g) (cs : List Change) (
   rooms : HasRooms taken × HasRoomsWith taken (fresh_batch (length taken.indexes.items) r.prepared.batch)
   rooms = rooms_taken read taken then r.prepared takes (rooms_kept g read first keeps right.rooms) (subst (λ (n : ℕ). AreRoomsOf n r.prepared) (sym count) ready.rooms) marks closes
 
+  rooms_there : AreRoomsOf (length taken.indexes.items) r.prepared
+  rooms_there = subst (λ (n : ℕ). AreRoomsOf n r.prepared) (sym (alike_count g.indexes.items taken.indexes.items leaves.indexes)) ready.rooms
+
   before : IsRightGroup taken
   before = right_after g taken leaves right rooms.0
 
@@ -58,6 +73,8 @@ module _ (g read taken g' : Group) (right : IsRightGroup g) (cs : List Change) (
     leaves = leaves;
     batch = r.prepared.batch;
     is = is_batch;
+    few = few_rooms (length taken.indexes.items) r.prepared rooms_there;
+    light = light_rooms (length taken.indexes.items) r.prepared rooms_there;
     admits = admits;
     before = before;
     after = keeps_right taken r.started.stamp cs r.prepared.batch is_batch g' admits before (subst (λ (x : Table). AllFit x cs) (sym leaves.table) fit) distinct some few rooms.0 rooms.1;

@@ -3,7 +3,9 @@ use Rattle.std.proofs.Common.{◌≡◌, ◌≢◌, ◌<◌, ◌≤◌, ◌+◌,
 use Rattle.std.specs.Prelude.{IsSome, IsTrue}
 use Rattle.std.specs.List.{AllByRecursion, slice_set}
 use Rattle.px_outside.specs.declared.disk.Disk.{Ghosts}
+use Rattle.px_values.specs.Limits.{most_of}
 use Rattle.px_values.specs.declared.change.Change.{Change}
+use Rattle.px_values.specs.declared.limit.Limit.TheVariants as bound
 use Rattle.px_values.specs.declared.name.TableId.{TableId}
 use Rattle.px_values.specs.declared.row.Value.{Value}
 use Rattle.px_tables.specs.declared.table.Table.{Table}
@@ -15,18 +17,20 @@ use Rattle.px_trail.specs.Trail.{Base, catalogue_of, catalogue_step, closing_ste
 use Rattle.px_trail.specs.declared.entry.Act.TheVariants.{Begun as BegunAct}
 use Rattle.px_trail.specs.declared.entry.Entry.{Entry}
 use Rattle.px_trail.proofs.Growth.{catalogue-snoc}
-use Rattle.px_calls.specs.Causes.{HasLongKey, expected_now}
+use Rattle.px_calls.specs.Causes.{HasLongKey, WritesManyBytes, WritesManyCells, expected_now}
 use Rattle.px_calls.specs.Requires.{IsChangeOf}
 use Rattle.px_groupworld.specs.Group.{IsTableBase}
 use Rattle.px_phases.specs.Batch.{AllFit, BatchData}
 use Rattle.px_schema.specs.declared.standing.Standing.{Standing}
 use Rattle.px_catalog.specs.declared.catalog.Catalog.{Catalog}
 use Rattle.px_group.specs.Group.{IsRightGroup, IsShownBy, IsTallied}
+use Rattle.px_group.specs.Room.{bytes_at, bytes_of_rows, cells_at, cells_of_rows}
 use Rattle.px_group.specs.declared.group.Group.{Group}
 use Rattle.px_recovery.proofs.Server.{newest_early}
 use Rattle.px_beginning.specs.Admits.{Admits}
 use Rattle.px_beginning.specs.Begins.{IsBatchOf, NeedsLongKey, old_state}
 use Rattle.px_beginning.specs.Leaves.{KeepsRooms, LeavesGroup}
+use Rattle.px_beginning.specs.Rooms.{HasManyBytes, HasManyCells, PassesAt}
 use Rattle.px_beginning.proofs.Expected.{counted_on}
 use Rattle.px_beginning.proofs.Leaves.{right_after, shown_after, tallied_after}
 use Rattle.px_beginning.proofs.Promised.{rooms_kept}
@@ -38,6 +42,7 @@ use Rattle.px_server.proofs.Begun.{begun_acted, owed_begun}
 use Rattle.px_server.proofs.FitsRows.{all_fit}
 use Rattle.px_server.proofs.Lists.{all_at}
 use Rattle.px_server.proofs.LongKeys.{needs_long, needs_short}
+use Rattle.px_server.proofs.ManyCells.{needs_bytes, needs_cells, needs_few, needs_light}
 use Rattle.px_server.proofs.Released.{group_of, place_in}
 use Rattle.px_server.proofs.Unbegun.{left_acted, left_owed}
 
@@ -87,7 +92,7 @@ module _ {D : Type 0} (d : Ghosts D) (b : Base) (sound premise : Type 0) (began 
       (left_acted g g' leaves d disk b es closed running (points_at d b sound premise began disk catalog standing groups trail late closed k place g inside is) (left_right g' leaves keeps) tallied_here (once_at d b sound premise began disk catalog standing groups trail late closed k place g inside is running))
       (let same = left_owed g g' leaves in omega (arith, same))
 
-  -- ---- keys
+  -- ---- keys, cells and bytes
 
   module _ (cs : List Change) (fit : AllFit g.table cs) (early : g.last ≤ greatest_stamp) (given : sound) where
     shows_here : HasShown b es standing.indexes (k.shown given running).told g
@@ -114,6 +119,18 @@ module _ {D : Type 0} (d : Ghosts D) (b : Base) (sound premise : Type 0) (began 
 
       pub short_there : (s : ℕ) (bd : BatchData) → IsBatchOf g' s cs bd → HasLongKey b es t.0 cs → ⊥
       short_there s bd batch long = needs_short b es g' right tallied_there.standing shown_there.kept.group.shape read_there cs fit_there s bd batch (subst (λ (n : ℕ). HasLongKey b es n cs) (sym number_there) long)
+
+      pub cells_there : (s : ℕ) → HasManyCells g' s cs → WritesManyCells b es t.0 cs
+      cells_there s many = subst (λ (n : ℕ). WritesManyCells b es n cs) number_there (needs_cells b es g' right tallied_there.standing shown_there.kept.group.shape read_there cs s many)
+
+      pub bytes_there : (s : ℕ) → HasManyBytes g' s cs → WritesManyBytes b es t.0 cs
+      bytes_there s many = subst (λ (n : ℕ). WritesManyBytes b es n cs) number_there (needs_bytes b es g' right tallied_there.standing shown_there.kept.group.shape read_there cs s many)
+
+      pub few_there : (s : ℕ) (bd : BatchData) → IsBatchOf g' s cs bd → (PassesAt cells_of_rows cells_at (most_of bound.Cells) (length g'.indexes.items) bd → ⊥) → WritesManyCells b es t.0 cs → ⊥
+      few_there s bd batch none many = needs_few b es g' right tallied_there.standing shown_there.kept.group.shape read_there cs s bd batch none (subst (λ (n : ℕ). WritesManyCells b es n cs) (sym number_there) many)
+
+      pub light_there : (s : ℕ) (bd : BatchData) → IsBatchOf g' s cs bd → (PassesAt bytes_of_rows bytes_at (most_of bound.Bytes) (length g'.indexes.items) bd → ⊥) → WritesManyBytes b es t.0 cs → ⊥
+      light_there s bd batch none many = needs_light b es g' right tallied_there.standing shown_there.kept.group.shape read_there cs s bd batch none (subst (λ (n : ℕ). WritesManyBytes b es n cs) (sym number_there) many)
 
   -- ---- begun
 

@@ -58,6 +58,7 @@ pub mod Looked
 pub mod OnlyRead
 pub mod Missed
 pub mod Low
+pub mod ManyCells
 pub mod MarkSteps
 pub mod Marked
 pub mod Noted

@@ -33,7 +33,7 @@ use Rattle.px_server.proofs.OwnRows.{HasKey, apply_key, old_key}
 
 -- ---- one key
 
-long_same : (t : Table) (x : Index) (r row : List Value) → HasKey t r (Some row) → spelled (columns_on (index_path t x)) (values_on (index_path t x) row) ≡ spelled (index_columns t x) (index_values t x r row)
+pub long_same : (t : Table) (x : Index) (r row : List Value) → HasKey t r (Some row) → spelled (columns_on (index_path t x)) (values_on (index_path t x) row) ≡ spelled (index_columns t x) (index_values t x r row)
 long_same t x r row own = (λ i. spelled (index_columns_same t x i) (values_are t x r row own i))
 
 long_there : (t : Table) (x : Index) (r : List Value) (o : RowState) → HasKey t r o → IsLongInIndex t x r o → IsLongIn t x o

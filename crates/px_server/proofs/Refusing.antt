@@ -12,12 +12,13 @@ use Rattle.px_trail.specs.Trail.{closing_call, last_of}
 use Rattle.px_trail.specs.declared.entry.Act.TheVariants.{Begun}
 use Rattle.px_trail.specs.declared.entry.Entry.{Entry}
 use Rattle.px_calls.specs.Calls.{DidBegin}
-use Rattle.px_calls.specs.Causes.{HasLongKey, LacksTable, Refuses, TableStands, begin_cause}
+use Rattle.px_calls.specs.Causes.{HasLongKey, LacksTable, Refuses, TableStands, WritesManyBytes, WritesManyCells, begin_cause}
 use Rattle.px_calls.specs.Known.{Known}
 use Rattle.px_calls.specs.declared.fault.StepFault.{StepFault}
 use Rattle.px_calls.specs.declared.fault.StepFault.TheVariants.{Busy, Limit, Memory, NoTable, NotReady, ReadFault}
 use Rattle.px_group.specs.declared.group.Group.{Group}
 use Rattle.px_beginning.specs.Begins.{NeedsLongKey}
+use Rattle.px_beginning.specs.Rooms.{HasManyBytes, HasManyCells}
 use Rattle.px_beginning.specs.declared.preparing.Prepared.{Prepared}
 use Rattle.px_server.specs.Beginning.{IsRefusedIn, IsUnbegun, RefusesBatch, unready_cause, untaken_cause}
 use Rattle.px_server.proofs.Seen.{stays}
@@ -33,11 +34,12 @@ module _ (k : Known) (legal : IsLegal k.base k.seen) (running : closing_call k.s
   pub begun_no_table : LacksTable k t → Refuses (begin_cause sound t cs) k k NoTable
   begun_no_table lacks = (lacks, stays k legal, running)
 
-  module _ (stands : TableStands k t) (g : Group) (last : last_of k.base t k.seen ≡ g.last) (long : g.last ≤ most_of bound.Stamps → NeedsLongKey g cs → sound → HasLongKey k.base k.seen t cs) where
+  module _ (stands : TableStands k t) (g : Group) (last : last_of k.base t k.seen ≡ g.last) (long : g.last ≤ most_of bound.Stamps → NeedsLongKey g cs → sound → HasLongKey k.base k.seen t cs)
+      (cells : (s : ℕ) → g.last ≤ most_of bound.Stamps → HasManyCells g s cs → sound → WritesManyCells k.base k.seen t cs) (bytes : (s : ℕ) → g.last ≤ most_of bound.Stamps → HasManyBytes g s cs → sound → WritesManyBytes k.base k.seen t cs) where
     unready : (f : StepFault) → (f ≡ ReadFault → ⊥) → unready_cause g cs f → Refuses (begin_cause sound t cs) k k f
     unready (Limit bound.Key count) other c = ((stands, c.0, long c.2 c.1), stays k legal, running)
-    unready (Limit bound.Cells count) other c = ((stands, c.0, tt), stays k legal, running)
-    unready (Limit bound.Bytes count) other c = ((stands, c.0, tt), stays k legal, running)
+    unready (Limit bound.Cells count) other c = ((stands, c.0, cells c.1.0 c.2 c.1.1), stays k legal, running)
+    unready (Limit bound.Bytes count) other c = ((stands, c.0, bytes c.1.0 c.2 c.1.1), stays k legal, running)
     unready (Limit bound.Stamps count) other c = ((stands, c.0, (let top = c.1 in omega (arith, top, last))), stays k legal, running)
     unready ReadFault other c = absurd (other refl)
     unready Memory other c = (tt, stays k legal, running)
@@ -66,7 +68,8 @@ counted_more es e =
     omega (arith, all, one, none)
 
 module _ (k : Known) (legal : IsLegal k.base k.seen) (sound : Type 0) (t : TableId) (cs : List Change) (s calls : ℕ) (es : List Entry) (is : es ≡ k.seen ++ record { seat = k.seat; calls = calls; act = Begun t s cs } ∷ []) (legal' : IsLegal k.base es)
-    (early : s ≤ most_of bound.Stamps) (few : counted_bytes k.seen + sum_by counted_change cs ≤ most_of bound.Trail) (short : sound → HasLongKey k.base k.seen t.0 cs → ⊥) where
+    (early : s ≤ most_of bound.Stamps) (few : counted_bytes k.seen + sum_by counted_change cs ≤ most_of bound.Trail) (short : sound → HasLongKey k.base k.seen t.0 cs → ⊥)
+    (few_cells : sound → WritesManyCells k.base k.seen t.0 cs → ⊥) (light : sound → WritesManyBytes k.base k.seen t.0 cs → ⊥) where
   pub did_begin : DidBegin sound k (record k { seen = es }) t cs (record { table = t; stamp = s })
   did_begin = record {
     table = refl;
@@ -74,4 +77,6 @@ module _ (k : Known) (legal : IsLegal k.base k.seen) (sound : Type 0) (t : Table
     stamp = early;
     trail = subst (λ (ys : List Entry). counted_bytes ys ≤ most_of bound.Trail) (sym is) (let more = counted_more k.seen (record { seat = k.seat; calls = calls; act = Begun t s cs }) in omega (arith, more, few));
     short = short;
+    few = few_cells;
+    light = light;
   }

@@ -13,12 +13,13 @@ use Rattle.px_calls.specs.declared.fault.StepFault.{StepFault}
 use Rattle.px_calls.specs.declared.fault.StepFault.TheVariants.{Busy, Limit, NotReady, ReadFault, Memory}
 use Rattle.px_phases.specs.Batch.{BatchData}
 use Rattle.px_group.specs.Group.{IsRightGroup}
+use Rattle.px_group.specs.Room.{bytes_at, bytes_of_rows, cells_at, cells_of_rows}
 use Rattle.px_group.specs.declared.group.Group.{Group}
 use Rattle.px_beginning.specs.Admits.{Admits}
 use Rattle.px_beginning.specs.Begins.{IsBatchOf, NeedsLongKey}
 use Rattle.px_beginning.specs.Leaves.{LeavesGroup}
 use Rattle.px_beginning.specs.Refused.{IsRefusedOf}
-use Rattle.px_beginning.specs.Rooms.{AreRoomsOf, HasManyBytes, HasManyCells}
+use Rattle.px_beginning.specs.Rooms.{AreRoomsOf, HasManyBytes, HasManyCells, PassesAt}
 use Rattle.px_beginning.specs.declared.fault.BeginFault.TheVariants as promise
 use Rattle.px_beginning.specs.declared.preparing.Prepared.{Prepared}
 use Rattle.px_server.specs.declared.readying.Ready.{Ready}
@@ -37,8 +38,8 @@ pub record IsReady (g : Group) (cs : List Change) (clock : ℕ) (r : Ready) : Ty
 -- why none is made ready; how many cells and bytes a batch has doesn't hang on its stamp
 abbrev pub unready_cause : Group → List Change → StepFault → Type 0
 unready_cause g cs (Limit bound.Key count) = (count ≡ most_of bound.Key) × NeedsLongKey g cs × (g.last ≤ most_of bound.Stamps)
-unready_cause g cs (Limit bound.Cells count) = (count ≡ most_of bound.Cells) × ((stamp : ℕ) × HasManyCells g stamp cs)
-unready_cause g cs (Limit bound.Bytes count) = (count ≡ most_of bound.Bytes) × ((stamp : ℕ) × HasManyBytes g stamp cs)
+unready_cause g cs (Limit bound.Cells count) = (count ≡ most_of bound.Cells) × ((stamp : ℕ) × HasManyCells g stamp cs) × (g.last ≤ most_of bound.Stamps)
+unready_cause g cs (Limit bound.Bytes count) = (count ≡ most_of bound.Bytes) × ((stamp : ℕ) × HasManyBytes g stamp cs) × (g.last ≤ most_of bound.Stamps)
 unready_cause g cs (Limit bound.Stamps count) = (count ≡ most_of bound.Stamps) × (most_of bound.Stamps ≤ g.last)
 unready_cause g cs ReadFault = Unit {0}
 unready_cause g cs Memory = Unit {0}
@@ -94,13 +95,15 @@ RefusesBatch groups t es cs f = Unit {0}
 
 -- 3. Let in
 
--- The batch of these changes is the last of the group, which is right before and after. Until then nothing is read otherwise of the group.
+-- The batch of these changes passes no limit, and is the last of the group, which is right before and after. Until then nothing is read otherwise of the group.
 pub record LetsIn (g g' : Group) (cs : List Change) (clock : ℕ) (s : Started) : Type 0 where
   pub stamp : drawn_stamp g.last clock ≡ Some s.stamp
   pub taken : Group
   pub leaves : LeavesGroup g taken
   pub batch : BatchData
   pub is : IsBatchOf taken s.stamp cs batch
+  pub few : PassesAt cells_of_rows cells_at (most_of bound.Cells) (length taken.indexes.items) batch → ⊥
+  pub light : PassesAt bytes_of_rows bytes_at (most_of bound.Bytes) (length taken.indexes.items) batch → ⊥
   pub admits : Admits taken batch g'
   pub before : IsRightGroup taken
   pub after : IsRightGroup g'

@@ -23,7 +23,7 @@ use Rattle.px_server.specs.Stamps.{draw}
 use Rattle.px_server.proofs.Begun.{drawn_above}
 use Rattle.px_server.proofs.Found.{closed_by}
 use Rattle.px_server.proofs.Left.{left_none}
-use Rattle.px_server.proofs.Letting.{begun_kept, fit_here, last_here, left_kept, long_there, right_here, short_there, stands_here}
+use Rattle.px_server.proofs.Letting.{begun_kept, bytes_there, cells_there, few_there, fit_here, last_here, left_kept, light_there, long_there, right_here, short_there, stands_here}
 use Rattle.px_server.proofs.CallsLeft.{few}
 use Rattle.px_server.proofs.OnlyRead.{read_kept}
 use Rattle.px_server.proofs.Refusing.{begun_no_table, did_begin, refuses_batch, unbegun}
@@ -153,7 +153,9 @@ returns-in-Ok-clause-ok g c =
     let early : c.index_mut.result.now.last ≤ greatest_stamp = (let l = stamp.0 in let m' = stamp.1 in omega (arith, l, m')) in
     subst (λ (w : Shown). DidBegin g.B.Founded.sound (known_by b g.B.Based.damaged w) (known_by b g.B.Based.damaged v') c.args.table cs (record { table = c.args.table; stamp = c.in-Ok.started.stamp })) c.self.view_is
     (did_begin (known_by b g.B.Based.damaged v) told.legal g.B.Founded.sound c.args.table cs c.in-Ok.started.stamp c.call_count.result c.push.new.self.entries entries (invariant_of-self-in-Ok g c).0.told.legal stamp.1 (subst (λ (es : List Entry). counted_bytes es + sum_by counted_change cs ≤ most_of bound.Trail) c.reserve.ensures.same taken.few)
-    (λ given. short_there g.D.Disk b g.B.Founded.sound g.B.Founded.premise g.B.Founded.began s.disk s.catalog s.standing s.groups.items s.trail s.late s.closed c.self.invariant.0 running c.args.table c.in-Some-numbered_place.place c.index_mut.result.now c.in-Some-numbered_place.ensures.found c.in-Some-numbered_place.ensures.numbered (sym c.index_mut.ensures.value) cs fit early given m.taken m.leaves m.before c.in-Ok.started.stamp m.batch m.is))
+    (λ given. short_there g.D.Disk b g.B.Founded.sound g.B.Founded.premise g.B.Founded.began s.disk s.catalog s.standing s.groups.items s.trail s.late s.closed c.self.invariant.0 running c.args.table c.in-Some-numbered_place.place c.index_mut.result.now c.in-Some-numbered_place.ensures.found c.in-Some-numbered_place.ensures.numbered (sym c.index_mut.ensures.value) cs fit early given m.taken m.leaves m.before c.in-Ok.started.stamp m.batch m.is)
+    (λ given. few_there g.D.Disk b g.B.Founded.sound g.B.Founded.premise g.B.Founded.began s.disk s.catalog s.standing s.groups.items s.trail s.late s.closed c.self.invariant.0 running c.args.table c.in-Some-numbered_place.place c.index_mut.result.now c.in-Some-numbered_place.ensures.found c.in-Some-numbered_place.ensures.numbered (sym c.index_mut.ensures.value) cs fit early given m.taken m.leaves m.before c.in-Ok.started.stamp m.batch m.is m.few)
+    (λ given. light_there g.D.Disk b g.B.Founded.sound g.B.Founded.premise g.B.Founded.began s.disk s.catalog s.standing s.groups.items s.trail s.late s.closed c.self.invariant.0 running c.args.table c.in-Some-numbered_place.place c.index_mut.result.now c.in-Some-numbered_place.ensures.found c.in-Some-numbered_place.ensures.numbered (sym c.index_mut.ensures.value) cs fit early given m.taken m.leaves m.before c.in-Ok.started.stamp m.batch m.is m.light))
 
 pub returns-in-Err-clause-refused : goal.returns-in-Err-clause-refused
 returns-in-Err-clause-refused g c =
@@ -174,7 +176,9 @@ returns-in-Err-clause-refused g c =
     (told_refused k told.legal (told.closing ∙ running) (begin_cause g.B.Founded.sound c.args.table.0 cs) c.call_count-calls.result c.told.new.trail.entries (invariant_of-self-in-Err g c).0.told.legal c.in-Err.fault c.told.result tells
     (λ entries. subst IsSome (sym (missed_table b s.trail.entries c.told.new.trail.entries s.seat c.call_count-calls.result c.args.table.0 entries)) stands) tt
     (λ other. unbegun k told.legal (told.closing ∙ running) g.B.Founded.sound c.args.table.0 cs stands c.index_mut.result.now (last_here g.D.Disk b g.B.Founded.sound g.B.Founded.premise g.B.Founded.began s.disk s.catalog s.standing s.groups.items s.trail s.late s.closed c.self.invariant.0 running c.args.table c.in-Some-numbered_place.place c.index_mut.result.now c.in-Some-numbered_place.ensures.found c.in-Some-numbered_place.ensures.numbered (sym c.index_mut.ensures.value))
-    (λ early needs given. long_there g.D.Disk b g.B.Founded.sound g.B.Founded.premise g.B.Founded.began s.disk s.catalog s.standing s.groups.items s.trail s.late s.closed c.self.invariant.0 running c.args.table c.in-Some-numbered_place.place c.index_mut.result.now c.in-Some-numbered_place.ensures.found c.in-Some-numbered_place.ensures.numbered (sym c.index_mut.ensures.value) cs fit early given c.index_mut.result.now (left_none c.index_mut.result.now) (right_here g.D.Disk b g.B.Founded.sound g.B.Founded.premise g.B.Founded.began s.disk s.catalog s.standing s.groups.items s.trail s.late s.closed c.self.invariant.0 running c.args.table c.in-Some-numbered_place.place c.index_mut.result.now c.in-Some-numbered_place.ensures.found c.in-Some-numbered_place.ensures.numbered (sym c.index_mut.ensures.value)) needs) c.now-clock.result c.in-Err.fault other refused))
+    (λ early needs given. long_there g.D.Disk b g.B.Founded.sound g.B.Founded.premise g.B.Founded.began s.disk s.catalog s.standing s.groups.items s.trail s.late s.closed c.self.invariant.0 running c.args.table c.in-Some-numbered_place.place c.index_mut.result.now c.in-Some-numbered_place.ensures.found c.in-Some-numbered_place.ensures.numbered (sym c.index_mut.ensures.value) cs fit early given c.index_mut.result.now (left_none c.index_mut.result.now) (right_here g.D.Disk b g.B.Founded.sound g.B.Founded.premise g.B.Founded.began s.disk s.catalog s.standing s.groups.items s.trail s.late s.closed c.self.invariant.0 running c.args.table c.in-Some-numbered_place.place c.index_mut.result.now c.in-Some-numbered_place.ensures.found c.in-Some-numbered_place.ensures.numbered (sym c.index_mut.ensures.value)) needs)
+    (λ s' early needs given. cells_there g.D.Disk b g.B.Founded.sound g.B.Founded.premise g.B.Founded.began s.disk s.catalog s.standing s.groups.items s.trail s.late s.closed c.self.invariant.0 running c.args.table c.in-Some-numbered_place.place c.index_mut.result.now c.in-Some-numbered_place.ensures.found c.in-Some-numbered_place.ensures.numbered (sym c.index_mut.ensures.value) cs fit early given c.index_mut.result.now (left_none c.index_mut.result.now) (right_here g.D.Disk b g.B.Founded.sound g.B.Founded.premise g.B.Founded.began s.disk s.catalog s.standing s.groups.items s.trail s.late s.closed c.self.invariant.0 running c.args.table c.in-Some-numbered_place.place c.index_mut.result.now c.in-Some-numbered_place.ensures.found c.in-Some-numbered_place.ensures.numbered (sym c.index_mut.ensures.value)) s' needs)
+    (λ s' early needs given. bytes_there g.D.Disk b g.B.Founded.sound g.B.Founded.premise g.B.Founded.began s.disk s.catalog s.standing s.groups.items s.trail s.late s.closed c.self.invariant.0 running c.args.table c.in-Some-numbered_place.place c.index_mut.result.now c.in-Some-numbered_place.ensures.found c.in-Some-numbered_place.ensures.numbered (sym c.index_mut.ensures.value) cs fit early given c.index_mut.result.now (left_none c.index_mut.result.now) (right_here g.D.Disk b g.B.Founded.sound g.B.Founded.premise g.B.Founded.began s.disk s.catalog s.standing s.groups.items s.trail s.late s.closed c.self.invariant.0 running c.args.table c.in-Some-numbered_place.place c.index_mut.result.now c.in-Some-numbered_place.ensures.found c.in-Some-numbered_place.ensures.numbered (sym c.index_mut.ensures.value)) s' needs) c.now-clock.result c.in-Err.fault other refused))
 
 pub returns-in-Err-clause-caused : goal.returns-in-Err-clause-caused
 returns-in-Err-clause-caused g c =
