@@ -1,12 +1,16 @@
 -- The steps of a batch, arm by arm, over what a seat knows.
-use Rattle.std.proofs.Common.{ℕ, ◌≡◌, ◌≤◌, ◌+◌, Ok, Err, Result, Some, List, [], ◌∷◌, ◌++◌, length, drop, refl, sym, ◌∙◌, ap, subst, arith, length-append, ◌⊎◌, inl, inr}
+use Rattle.std.proofs.Common.{ℕ, ◌≡◌, ◌≤◌, ◌+◌, Ok, Err, Result, Some, List, [], ◌∷◌, ◌++◌, append_assoc, length, drop, refl, sym, ◌∙◌, ap, subst, arith, length-append, ◌⊎◌, inl, inr}
+use Rattle.px_values.specs.Limits.{most_of}
 use Rattle.px_values.specs.declared.change.Change.{Change}
+use Rattle.px_values.specs.declared.limit.Limit.TheVariants as bound
 use Rattle.px_values.specs.declared.name.TableId.{TableId}
 use Rattle.px_trail.specs.declared.entry.Act.{Act}
 use Rattle.px_trail.specs.declared.entry.Act.TheVariants as act
+use Rattle.px_trail.specs.declared.entry.Entry.{Entry}
 use Rattle.px_trail.specs.Answers.{IsAmong}
 use Rattle.px_trail.specs.Batches.{Closing, Marking, Verifying, Writing}
-use Rattle.px_trail.specs.Trail.{acts_by, closing_call}
+use Rattle.px_trail.specs.Count.{counted_bytes}
+use Rattle.px_trail.specs.Trail.{Base, acts_by, closing_call}
 use Rattle.px_calls.specs.declared.fault.StepFault.TheVariants as step
 use Rattle.px_calls.specs.declared.ticket.Receipt.{Receipt}
 use Rattle.px_calls.specs.declared.ticket.Ticket.{Ticket}
@@ -21,7 +25,7 @@ use Rattle.px_batch.specs.declared.batch.BatchFault.TheVariants as fault
 use Rattle.px_batch.specs.declared.batch.BatchState.{BatchState}
 use Rattle.px_batch.specs.declared.batch.BatchState.TheVariants as state
 use Rattle.px_batch.specs.declared.batch.BatchTurn.TheVariants as turn
-use Rattle.px_batch.specs.Turns.{BatchFaultIs, BatchFaultSince, BatchTurns, FitsBatch, IsBatchGoing, IsBatchOutcome, IsBatchSince, IsBatchSinceThen, IsStopping, RanBatch, SoFar, StopIs, begun_by_batch}
+use Rattle.px_batch.specs.Turns.{BatchFaultIs, BatchFaultSince, BatchTurns, FitsBatch, IsBatchGoing, IsBatchOutcome, IsBatchSince, IsBatchSinceThen, IsStopping, KeptWithin, RanBatch, SoFar, StopIs, begun_by_batch}
 
 -- 1. Places
 
@@ -29,6 +33,29 @@ pub grown : (k k' : Known) (acts : List Act) (n : ℕ) → Ran k k' acts → n �
 grown k k' acts n h low =
     let e : length k'.seen ≡ length k.seen + length h.added = ap length h.seen ∙ length-append k.seen h.added in
     omega arith
+
+-- what a batch kept within it kept within in whatever comes of the trail
+pub within_grows : (sound : Type 0) (b b' : Base) (es es' more : List Entry) (t : TableId) (cs : List Change) (stamp : ℕ) → es' ≡ es ++ more → b' ≡ b → KeptWithin sound b es t cs stamp → KeptWithin sound b' es' t cs stamp
+within_grows sound b b' es es' more t cs stamp seen base w =
+    let on : KeptWithin sound b es' t cs stamp = record {
+      front = w.front;
+      entry = w.entry;
+      rest = w.rest ++ more;
+      is = seen ∙ (ap (λ (l : List Entry). l ++ more) w.is ∙ append_assoc w.front (w.entry ∷ w.rest) more);
+      begins = w.begins;
+      short = w.short;
+      few = w.few;
+      light = w.light;
+      stamps = w.stamps;
+      trail = w.trail;
+    } in
+    subst (λ (x : Base). KeptWithin sound x es' t cs stamp) (sym base) on
+
+within_ran : (sound : Type 0) (k k' : Known) (acts : List Act) (t : TableId) (cs : List Change) (stamp : ℕ) → Ran k k' acts → KeptWithin sound k.base k.seen t cs stamp → KeptWithin sound k'.base k'.seen t cs stamp
+within_ran sound k k' acts t cs stamp h w = within_grows sound k.base k'.base k.seen k'.seen h.added t cs stamp h.seen h.base w
+
+within_passes : (sound : Type 0) (k k' : Known) (t : TableId) (cs : List Change) (stamp : ℕ) → TimePasses k k' → KeptWithin sound k.base k.seen t cs stamp → KeptWithin sound k'.base k'.seen t cs stamp
+within_passes sound k k' t cs stamp h w = within_grows sound k.base k'.base k.seen k'.seen h.others t cs stamp h.seen h.base w
 
 -- the call's own act is one of the seat's
 made : (k k' : Known) (a : Act) → Adds k k' a → HasMade k' a
@@ -49,14 +76,31 @@ adds_fits k k' a t cs h f =
     let e = h.extends in
     grown-fits h.between k' _ t cs e.seen e.base e.legal (passes-fits k h.between t cs h.sees.passes f)
 
+begun_within : (sound : Type 0) (k k' : Known) (t : Ticket) (table : TableId) (cs : List Change) → DidBegin sound k k' table cs t → KeptWithin sound k'.base k'.seen table cs t.stamp
+begun_within sound k k' t table cs h =
+    let e = h.adds.extends in
+    let before = h.adds.between in
+    record {
+      front = before.seen;
+      entry = record { seat = before.seat; calls = e.calls; act = act.Begun table t.stamp cs };
+      rest = [];
+      is = e.seen;
+      begins = refl;
+      short = h.short;
+      few = h.few;
+      light = h.light;
+      stamps = h.stamp;
+      trail = subst (λ (l : List Entry). counted_bytes l ≤ most_of bound.Trail) e.seen h.trail;
+    }
+
 pub begins : (sound : Type 0) (k k' : Known) (t : Ticket) (table : TableId) (cs : List Change) → DidBegin sound k k' table cs t → BatchTurns sound table cs state.Beginning k (state.Marking t) k' turn.Stepped
 begins sound k k' t table cs h =
     let r = ran-adds k k' (act.Begun table t.stamp cs) h.adds in
     let a : Adds k k' (act.Begun t.table t.stamp cs) = subst (λ (n : TableId). Adds k k' (act.Begun n t.stamp cs)) (sym h.table) h.adds in
-    record { acts = act.Begun table t.stamp cs ∷ []; ran = r; fits = (h.table, adds-begun k k' t cs a); told = (tt, refl); since = λ n low. grown k k' _ n r low }
+    record { acts = act.Begun table t.stamp cs ∷ []; ran = r; fits = (h.table, adds-begun k k' t cs a, begun_within sound k k' t table cs h); told = (tt, refl); since = λ n low. grown k k' _ n r low }
 
 -- a call that adds nothing, and the batch is to be begun or upkeep to be made
-pub settles : (sound : Type 0) (k k' : Known) (table : TableId) (cs : List Change) (old new : BatchState) → ((n : ℕ) → IsBatchSince n old k → n ≤ length k.seen) → ((n : ℕ) → n ≤ length k'.seen → IsBatchSince n new k') → begun_by_batch table cs old ≡ [] → begun_by_batch table cs new ≡ [] → IsBatchGoing new → FitsBatch table cs new k' → Sees k k' → BatchTurns sound table cs old k new k' turn.Stepped
+pub settles : (sound : Type 0) (k k' : Known) (table : TableId) (cs : List Change) (old new : BatchState) → ((n : ℕ) → IsBatchSince n old k → n ≤ length k.seen) → ((n : ℕ) → n ≤ length k'.seen → IsBatchSince n new k') → begun_by_batch table cs old ≡ [] → begun_by_batch table cs new ≡ [] → IsBatchGoing new → FitsBatch sound table cs new k' → Sees k k' → BatchTurns sound table cs old k new k' turn.Stepped
 settles sound k k' table cs old new from to none none' going fits h =
     let r = ran-sees k k' h in
     record { acts = []; ran = r; fits = fits; told = (going, ap (λ (l : List Act). l ++ []) none ∙ sym none'); since = λ n low. to n (grown k k' [] n r (from n low)) }
@@ -112,13 +156,13 @@ shuts sound k k' table cs old early h =
 
 -- 3. Phase 1
 
-pub marks : (sound : Type 0) (k k' : Known) (t : Ticket) (cs : List Change) → TicketIn k t Marking → Finds k k' → BatchTurns sound t.table cs (state.Marking t) k (state.Marking t) k' turn.Stepped
-marks sound k k' t cs i h = let r = ran-sees k k' h.sees in record { acts = []; ran = r; fits = (refl, sees-ticket k k' t Marking h.sees i); told = (tt, refl); since = λ n low. grown k k' _ n r low }
+pub marks : (sound : Type 0) (k k' : Known) (t : Ticket) (cs : List Change) → TicketIn k t Marking → KeptWithin sound k.base k.seen t.table cs t.stamp → Finds k k' → BatchTurns sound t.table cs (state.Marking t) k (state.Marking t) k' turn.Stepped
+marks sound k k' t cs i w h = let r = ran-sees k k' h.sees in record { acts = []; ran = r; fits = (refl, sees-ticket k k' t Marking h.sees i, within_ran sound k k' _ t.table cs t.stamp r w); told = (tt, refl); since = λ n low. grown k k' _ n r low }
 
-pub marks_all : (sound : Type 0) (k k' : Known) (t : Ticket) (cs : List Change) → TicketIn k t Marking → Adds k k' (act.Phase t.table t.stamp 1) → BatchTurns sound t.table cs (state.Marking t) k (state.Writing t) k' turn.Stepped
-marks_all sound k k' t cs i h =
+pub marks_all : (sound : Type 0) (k k' : Known) (t : Ticket) (cs : List Change) → TicketIn k t Marking → KeptWithin sound k.base k.seen t.table cs t.stamp → Adds k k' (act.Phase t.table t.stamp 1) → BatchTurns sound t.table cs (state.Marking t) k (state.Writing t) k' turn.Stepped
+marks_all sound k k' t cs i w h =
     let r = ran-adds k k' (act.Phase t.table t.stamp 1) h in
-    record { acts = act.Phase t.table t.stamp 1 ∷ []; ran = r; fits = (refl, adds-marked k k' t h i); told = (tt, refl); since = λ n low. grown k k' _ n r low }
+    record { acts = act.Phase t.table t.stamp 1 ∷ []; ran = r; fits = (refl, adds-marked k k' t h i, within_ran sound k k' _ t.table cs t.stamp r w); told = (tt, refl); since = λ n low. grown k k' _ n r low }
 
 pub mark_fails : (sound : Type 0) (k k' : Known) (t : Ticket) (cs : List Change) → TicketIn k t Marking → Refuses write_cause k k' step.WriteFault → BatchTurns sound t.table cs (state.Marking t) k (state.Leaving t fault.WriteFault) k' turn.Stepped
 mark_fails sound k k' t cs i h =
@@ -139,16 +183,16 @@ mark_closed sound k k' t cs call i h =
 
 -- 4. Phase 2
 
-pub writes : (sound : Type 0) (k k' : Known) (t : Ticket) (cs : List Change) → WroteRows k k' t Writing → BatchTurns sound t.table cs (state.Writing t) k (state.Writing t) k' turn.Stepped
-writes sound k k' t cs h = let r = ran-adds k k' (act.Wrote t.table t.stamp h.rows) h.adds in record { acts = act.Wrote t.table t.stamp h.rows ∷ []; ran = r; fits = (refl, h.next); told = (tt, refl); since = λ n low. grown k k' _ n r low }
+pub writes : (sound : Type 0) (k k' : Known) (t : Ticket) (cs : List Change) → KeptWithin sound k.base k.seen t.table cs t.stamp → WroteRows k k' t Writing → BatchTurns sound t.table cs (state.Writing t) k (state.Writing t) k' turn.Stepped
+writes sound k k' t cs w h = let r = ran-adds k k' (act.Wrote t.table t.stamp h.rows) h.adds in record { acts = act.Wrote t.table t.stamp h.rows ∷ []; ran = r; fits = (refl, h.next, within_ran sound k k' _ t.table cs t.stamp r w); told = (tt, refl); since = λ n low. grown k k' _ n r low }
 
-pub writes_all : (sound : Type 0) (k k' : Known) (t : Ticket) (cs : List Change) → WroteRows k k' t Verifying → BatchTurns sound t.table cs (state.Writing t) k (state.Verifying t) k' turn.Stepped
-writes_all sound k k' t cs h = let r = ran-adds k k' (act.Wrote t.table t.stamp h.rows) h.adds in record { acts = act.Wrote t.table t.stamp h.rows ∷ []; ran = r; fits = (refl, h.next); told = (tt, refl); since = λ n low. grown k k' _ n r low }
+pub writes_all : (sound : Type 0) (k k' : Known) (t : Ticket) (cs : List Change) → KeptWithin sound k.base k.seen t.table cs t.stamp → WroteRows k k' t Verifying → BatchTurns sound t.table cs (state.Writing t) k (state.Verifying t) k' turn.Stepped
+writes_all sound k k' t cs w h = let r = ran-adds k k' (act.Wrote t.table t.stamp h.rows) h.adds in record { acts = act.Wrote t.table t.stamp h.rows ∷ []; ran = r; fits = (refl, h.next, within_ran sound k k' _ t.table cs t.stamp r w); told = (tt, refl); since = λ n low. grown k k' _ n r low }
 
-pub waits : (sound : Type 0) (k k' : Known) (t : Ticket) (cs : List Change) (stamp : ℕ) → TicketIn k t Writing → Refuses (rows_cause t.table.0 t.stamp) k k' (step.NotYet stamp) → BatchTurns sound t.table cs (state.Writing t) k (state.Writing t) k' (turn.Waiting stamp)
-waits sound k k' t cs stamp i h =
+pub waits : (sound : Type 0) (k k' : Known) (t : Ticket) (cs : List Change) (stamp : ℕ) → TicketIn k t Writing → KeptWithin sound k.base k.seen t.table cs t.stamp → Refuses (rows_cause t.table.0 t.stamp) k k' (step.NotYet stamp) → BatchTurns sound t.table cs (state.Writing t) k (state.Writing t) k' (turn.Waiting stamp)
+waits sound k k' t cs stamp i w h =
     let r = ran-sees k k' h.1 in
-    record { acts = []; ran = r; fits = (refl, sees-ticket k k' t Writing h.1 i); told = (tt, refl, record { ticket = t; is = refl; waiting = h.0 }); since = λ n low. grown k k' _ n r low }
+    record { acts = []; ran = r; fits = (refl, sees-ticket k k' t Writing h.1 i, within_ran sound k k' _ t.table cs t.stamp r w); told = (tt, refl, record { ticket = t; is = refl; waiting = h.0 }); since = λ n low. grown k k' _ n r low }
 
 pub write_fails : (sound : Type 0) (k k' : Known) (t : Ticket) (cs : List Change) → TicketIn k t Writing → Refuses (rows_cause t.table.0 t.stamp) k k' step.WriteFault → BatchTurns sound t.table cs (state.Writing t) k (state.Leaving t fault.WriteFault) k' turn.Stepped
 write_fails sound k k' t cs i h =
@@ -169,35 +213,35 @@ write_closed sound k k' t cs call i h =
 
 -- 5. Phase 3
 
-pub verifies : (sound : Type 0) (k k' : Known) (t : Ticket) (cs : List Change) → TicketIn k t Verifying → Finds k k' → BatchTurns sound t.table cs (state.Verifying t) k (state.Verifying t) k' turn.Stepped
-verifies sound k k' t cs i h = let r = ran-sees k k' h.sees in record { acts = []; ran = r; fits = (refl, sees-ticket k k' t Verifying h.sees i); told = (tt, refl); since = λ n low. grown k k' _ n r low }
+pub verifies : (sound : Type 0) (k k' : Known) (t : Ticket) (cs : List Change) → TicketIn k t Verifying → KeptWithin sound k.base k.seen t.table cs t.stamp → Finds k k' → BatchTurns sound t.table cs (state.Verifying t) k (state.Verifying t) k' turn.Stepped
+verifies sound k k' t cs i w h = let r = ran-sees k k' h.sees in record { acts = []; ran = r; fits = (refl, sees-ticket k k' t Verifying h.sees i, within_ran sound k k' _ t.table cs t.stamp r w); told = (tt, refl); since = λ n low. grown k k' _ n r low }
 
-pub verifies_all : (sound : Type 0) (k k' : Known) (t : Ticket) (cs : List Change) → TicketIn k t Verifying → Adds k k' (act.Phase t.table t.stamp 3) → BatchTurns sound t.table cs (state.Verifying t) k (state.Ending t) k' turn.Stepped
-verifies_all sound k k' t cs i h =
+pub verifies_all : (sound : Type 0) (k k' : Known) (t : Ticket) (cs : List Change) → TicketIn k t Verifying → KeptWithin sound k.base k.seen t.table cs t.stamp → Adds k k' (act.Phase t.table t.stamp 3) → BatchTurns sound t.table cs (state.Verifying t) k (state.Ending t) k' turn.Stepped
+verifies_all sound k k' t cs i w h =
     let r = ran-adds k k' (act.Phase t.table t.stamp 3) h in
-    record { acts = act.Phase t.table t.stamp 3 ∷ []; ran = r; fits = (refl, inl (adds-verified k k' t h i)); told = (tt, refl); since = λ n low. grown k k' _ n r low }
+    record { acts = act.Phase t.table t.stamp 3 ∷ []; ran = r; fits = (refl, inl (adds-verified k k' t h i), within_ran sound k k' _ t.table cs t.stamp r w); told = (tt, refl); since = λ n low. grown k k' _ n r low }
 
-pub verify_fails : (sound : Type 0) (k k' : Known) (t : Ticket) (cs : List Change) → TicketIn k t Verifying → Refuses write_cause k k' step.WriteFault → BatchTurns sound t.table cs (state.Verifying t) k (state.Ending t) k' turn.Stepped
-verify_fails sound k k' t cs i h =
+pub verify_fails : (sound : Type 0) (k k' : Known) (t : Ticket) (cs : List Change) → TicketIn k t Verifying → KeptWithin sound k.base k.seen t.table cs t.stamp → Refuses write_cause k k' step.WriteFault → BatchTurns sound t.table cs (state.Verifying t) k (state.Ending t) k' turn.Stepped
+verify_fails sound k k' t cs i w h =
     let call = h.1.0 in
     let r = ran-adds k k' (act.Shut call) h.1.1 in
     record {
       acts = act.Shut call ∷ [];
       ran = r;
-      fits = (refl, inr (shut k' call (adds-shut k k' call h.1.1), refuses-ticket write_cause k k' step.WriteFault t Verifying h i));
+      fits = (refl, inr (shut k' call (adds-shut k k' call h.1.1), refuses-ticket write_cause k k' step.WriteFault t Verifying h i), within_ran sound k k' _ t.table cs t.stamp r w);
       told = (tt, refl);
       since = λ n low. grown k k' _ n r low;
     }
 
-pub verify_closed : (sound : Type 0) (k k' : Known) (t : Ticket) (cs : List Change) (call : ℕ) → TicketIn k t Verifying → Refuses write_cause k k' (step.Closed call) → BatchTurns sound t.table cs (state.Verifying t) k (state.Ending t) k' turn.Stepped
-verify_closed sound k k' t cs call i h =
+pub verify_closed : (sound : Type 0) (k k' : Known) (t : Ticket) (cs : List Change) (call : ℕ) → TicketIn k t Verifying → KeptWithin sound k.base k.seen t.table cs t.stamp → Refuses write_cause k k' (step.Closed call) → BatchTurns sound t.table cs (state.Verifying t) k (state.Ending t) k' turn.Stepped
+verify_closed sound k k' t cs call i w h =
     let r = ran-sees k k' h.1 in
-    record { acts = []; ran = r; fits = (refl, inr (shut k' call h.0, sees-ticket k k' t Verifying h.1 i)); told = (tt, refl); since = λ n low. grown k k' _ n r low }
+    record { acts = []; ran = r; fits = (refl, inr (shut k' call h.0, sees-ticket k k' t Verifying h.1 i), within_ran sound k k' _ t.table cs t.stamp r w); told = (tt, refl); since = λ n low. grown k k' _ n r low }
 
 -- 6. The end
 
-pub ends : (sound : Type 0) (k k' : Known) (t : Ticket) (cs : List Change) (r : Receipt) → Adds k k' (act.Ended t.table t.stamp) → IsReceipt k' t r → BatchTurns sound t.table cs (state.Ending t) k state.Over k' (turn.Over (Ok r))
-ends sound k k' t cs r h i =
+pub ends : (sound : Type 0) (k k' : Known) (t : Ticket) (cs : List Change) (r : Receipt) → KeptWithin sound k.base k.seen t.table cs t.stamp → Adds k k' (act.Ended t.table t.stamp) → IsReceipt k' t r → BatchTurns sound t.table cs (state.Ending t) k state.Over k' (turn.Over (Ok r))
+ends sound k k' t cs r w h i =
     let ran = ran-adds k k' (act.Ended t.table t.stamp) h in
     record {
       acts = act.Ended t.table t.stamp ∷ [];
@@ -208,6 +252,7 @@ ends sound k k' t cs r h i =
         record {
           one = ap (λ (n : ℕ). act.Begun t.table n cs ∷ act.Ended t.table n ∷ []) (sym i.stamp);
           receipt = subst (λ (n : ℕ). IsReceipt k' (record { table = t.table; stamp = n }) r) (sym i.stamp) i;
+          kept = subst (λ (n : ℕ). KeptWithin sound k'.base k'.seen t.table cs n) (sym i.stamp) (within_ran sound k k' _ t.table cs t.stamp ran w);
         },
       );
       since = λ n low. (let g = grown k k' _ n ran low in let at = i.at in omega arith);
@@ -259,13 +304,13 @@ leaves sound k k' t cs f can told h =
 
 -- 7. Whole batches
 
-pub starts : (table : TableId) (cs : List Change) (k : Known) → AreFitting k table.0 cs → SoFar table cs k k state.Beginning
-starts table cs k f = record { acts = []; ran = ran-none k; so_far = refl; fits = f; going = tt; since = omega arith }
+pub starts : (sound : Type 0) (table : TableId) (cs : List Change) (k : Known) → AreFitting k table.0 cs → SoFar sound table cs k k state.Beginning
+starts sound table cs k f = record { acts = []; ran = ran-none k; so_far = refl; fits = f; going = tt; since = omega arith }
 
 joined : (table : TableId) (cs : List Change) (old : BatchState) (xs ys : List Act) → outline xs ≡ begun_by_batch table cs old → outline (xs ++ ys) ≡ begun_by_batch table cs old ++ outline ys
 joined table cs old xs ys h = outline-append xs ys ∙ ap (λ (l : List Act). l ++ outline ys) h
 
-pub steps_on : (sound : Type 0) (table : TableId) (cs : List Change) (k0 k k' : Known) (old new : BatchState) → SoFar table cs k0 k old → BatchTurns sound table cs old k new k' turn.Stepped → SoFar table cs k0 k' new
+pub steps_on : (sound : Type 0) (table : TableId) (cs : List Change) (k0 k k' : Known) (old new : BatchState) → SoFar sound table cs k0 k old → BatchTurns sound table cs old k new k' turn.Stepped → SoFar sound table cs k0 k' new
 steps_on sound table cs k0 k k' old new h t =
     record {
       acts = h.acts ++ t.acts;
@@ -276,7 +321,7 @@ steps_on sound table cs k0 k k' old new h t =
       since = t.since (length k0.seen) h.since;
     }
 
-pub waits_on : (sound : Type 0) (table : TableId) (cs : List Change) (k0 k k' : Known) (old new : BatchState) (stamp : ℕ) → SoFar table cs k0 k old → BatchTurns sound table cs old k new k' (turn.Waiting stamp) → SoFar table cs k0 k' new
+pub waits_on : (sound : Type 0) (table : TableId) (cs : List Change) (k0 k k' : Known) (old new : BatchState) (stamp : ℕ) → SoFar sound table cs k0 k old → BatchTurns sound table cs old k new k' (turn.Waiting stamp) → SoFar sound table cs k0 k' new
 waits_on sound table cs k0 k k' old new stamp h t =
     record {
       acts = h.acts ++ t.acts;
@@ -294,7 +339,7 @@ over_since : (n : ℕ) (s : BatchState) (k : Known) (r : Result Receipt BatchFau
 over_since n s k (Ok r) h = h
 over_since n s k (Err f) h = h
 
-pub ends_as : (sound : Type 0) (table : TableId) (cs : List Change) (k0 k k' : Known) (old new : BatchState) (r : Result Receipt BatchFault) → SoFar table cs k0 k old → BatchTurns sound table cs old k new k' (turn.Over r) → RanBatch sound table cs k0 k' r
+pub ends_as : (sound : Type 0) (table : TableId) (cs : List Change) (k0 k k' : Known) (old new : BatchState) (r : Result Receipt BatchFault) → SoFar sound table cs k0 k old → BatchTurns sound table cs old k new k' (turn.Over r) → RanBatch sound table cs k0 k' r
 ends_as sound table cs k0 k k' old new r h t =
     record {
       acts = h.acts ++ t.acts;
@@ -306,14 +351,14 @@ ends_as sound table cs k0 k k' old new r h t =
 -- 8. Between two steps
 
 -- entries of other seats leave a run as it is
-pub fits-kept : (table : TableId) (cs : List Change) (s : BatchState) (k k' : Known) → TimePasses k k' → FitsBatch table cs s k → FitsBatch table cs s k'
-fits-kept table cs state.Beginning k k' h f = passes-fits k k' table.0 cs h f
-fits-kept table cs state.Settling k k' h f = passes-fits k k' table.0 cs h f
-fits-kept table cs (state.Marking t) k k' h f = (f.0, passes-ticket k k' t Marking h f.1)
-fits-kept table cs (state.Writing t) k k' h f = (f.0, passes-ticket k k' t Writing h f.1)
-fits-kept table cs (state.Verifying t) k k' h f = (f.0, passes-ticket k k' t Verifying h f.1)
-fits-kept table cs (state.Ending t) k k' h (e, inl i) = (e, inl (passes-ticket k k' t Closing h i))
-fits-kept table cs (state.Ending t) k k' h (e, inr i) = (e, inr (passes-shut k k' h i.0, passes-ticket k k' t Verifying h i.1))
-fits-kept table cs (state.Leaving t f) k k' h (e, (s, inl i), told) = (e, (passes-shut k k' h s, inl (passes-ticket k k' t Marking h i)), stop_made f k k' h told)
-fits-kept table cs (state.Leaving t f) k k' h (e, (s, inr i), told) = (e, (passes-shut k k' h s, inr (passes-ticket k k' t Writing h i)), stop_made f k k' h told)
-fits-kept table cs state.Over k k' h f = tt
+pub fits-kept : (sound : Type 0) (table : TableId) (cs : List Change) (s : BatchState) (k k' : Known) → TimePasses k k' → FitsBatch sound table cs s k → FitsBatch sound table cs s k'
+fits-kept sound table cs state.Beginning k k' h f = passes-fits k k' table.0 cs h f
+fits-kept sound table cs state.Settling k k' h f = passes-fits k k' table.0 cs h f
+fits-kept sound table cs (state.Marking t) k k' h f = (f.0, passes-ticket k k' t Marking h f.1, within_passes sound k k' table cs t.stamp h f.2)
+fits-kept sound table cs (state.Writing t) k k' h f = (f.0, passes-ticket k k' t Writing h f.1, within_passes sound k k' table cs t.stamp h f.2)
+fits-kept sound table cs (state.Verifying t) k k' h f = (f.0, passes-ticket k k' t Verifying h f.1, within_passes sound k k' table cs t.stamp h f.2)
+fits-kept sound table cs (state.Ending t) k k' h (e, inl i, w) = (e, inl (passes-ticket k k' t Closing h i), within_passes sound k k' table cs t.stamp h w)
+fits-kept sound table cs (state.Ending t) k k' h (e, inr i, w) = (e, inr (passes-shut k k' h i.0, passes-ticket k k' t Verifying h i.1), within_passes sound k k' table cs t.stamp h w)
+fits-kept sound table cs (state.Leaving t f) k k' h (e, (s, inl i), told) = (e, (passes-shut k k' h s, inl (passes-ticket k k' t Marking h i)), stop_made f k k' h told)
+fits-kept sound table cs (state.Leaving t f) k k' h (e, (s, inr i), told) = (e, (passes-shut k k' h s, inr (passes-ticket k k' t Writing h i)), stop_made f k k' h told)
+fits-kept sound table cs state.Over k k' h f = tt

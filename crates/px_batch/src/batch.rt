@@ -6,7 +6,7 @@ ghost use Rattle.px_trail.specs.Batches.{Marking, Verifying, Writing, is_distinc
 ghost use Rattle.px_calls.specs.Causes.{index_count};
 ghost use Rattle.px_calls.specs.Requires.{AreFitting, CanAbandon, CanEnd, TicketIn};
 ghost use Rattle.px_batch.specs.Bounds.{Spends};
-ghost use Rattle.px_batch.specs.Turns.{BatchTurns, FitsBatch, IsBatchGoing, StopIs};
+ghost use Rattle.px_batch.specs.Turns.{BatchTurns, FitsBatch, IsBatchGoing, KeptWithin, StopIs};
 
 use px_calls::{Marks, Receipt, StepFault, Steps, Ticket, Verifies, Work, Writes};
 use px_values::{Changes, Limit, TableId};
@@ -118,7 +118,7 @@ fn settle<S: Steps>(s: &mut S) -> (BatchState, BatchTurn)
 /// Marks the index rows of one region.
 fn mark<S: Steps>(s: &mut S, mut t: Ticket) -> (BatchState, BatchTurn)
     requires { TicketIn (S.known s.old) t Marking }
-    ensures turns { (cs : List RowChange) → BatchTurns S.sound t.table cs (BatchState.Marking t) (S.known s.old) result.0 (S.known s.new) result.1 }
+    ensures turns { (cs : List RowChange) → KeptWithin S.sound (S.known s.old).base (S.known s.old).seen t.table cs t.stamp → BatchTurns S.sound t.table cs (BatchState.Marking t) (S.known s.old) result.0 (S.known s.new) result.1 }
     ensures spends { (S.known s.old).alone ≡ true → (n : ℕ) → Spends n (S.left s.old) (BatchState.Marking t) (S.left s.new) result.0 result.1 }
     ensures one_call { S.one_call s.old s.new }
 {
@@ -140,7 +140,7 @@ fn mark<S: Steps>(s: &mut S, mut t: Ticket) -> (BatchState, BatchTurn)
 /// Writes rows of one region. While an earlier batch is pending on one, the same step is tried again.
 fn write<S: Steps>(s: &mut S, mut t: Ticket) -> (BatchState, BatchTurn)
     requires { TicketIn (S.known s.old) t Writing }
-    ensures turns { (cs : List RowChange) → BatchTurns S.sound t.table cs (BatchState.Writing t) (S.known s.old) result.0 (S.known s.new) result.1 }
+    ensures turns { (cs : List RowChange) → KeptWithin S.sound (S.known s.old).base (S.known s.old).seen t.table cs t.stamp → BatchTurns S.sound t.table cs (BatchState.Writing t) (S.known s.old) result.0 (S.known s.new) result.1 }
     ensures spends { (S.known s.old).alone ≡ true → (n : ℕ) → Spends n (S.left s.old) (BatchState.Writing t) (S.left s.new) result.0 result.1 }
     ensures one_call { S.one_call s.old s.new }
 {
@@ -163,7 +163,7 @@ fn write<S: Steps>(s: &mut S, mut t: Ticket) -> (BatchState, BatchTurn)
 /// Verifies the index rows of one region. A failure here doesn't fail the batch.
 fn verify<S: Steps>(s: &mut S, mut t: Ticket) -> (BatchState, BatchTurn)
     requires { TicketIn (S.known s.old) t Verifying }
-    ensures turns { (cs : List RowChange) → BatchTurns S.sound t.table cs (BatchState.Verifying t) (S.known s.old) result.0 (S.known s.new) result.1 }
+    ensures turns { (cs : List RowChange) → KeptWithin S.sound (S.known s.old).base (S.known s.old).seen t.table cs t.stamp → BatchTurns S.sound t.table cs (BatchState.Verifying t) (S.known s.old) result.0 (S.known s.new) result.1 }
     ensures spends { (S.known s.old).alone ≡ true → (n : ℕ) → Spends n (S.left s.old) (BatchState.Verifying t) (S.left s.new) result.0 result.1 }
     ensures one_call { S.one_call s.old s.new }
 {
@@ -179,7 +179,7 @@ fn verify<S: Steps>(s: &mut S, mut t: Ticket) -> (BatchState, BatchTurn)
 /// Ends the batch.
 fn end<S: Steps>(s: &mut S, t: Ticket) -> (BatchState, BatchTurn)
     requires { CanEnd (S.known s.old) t }
-    ensures turns { (cs : List RowChange) → BatchTurns S.sound t.table cs (BatchState.Ending t) (S.known s.old) result.0 (S.known s.new) result.1 }
+    ensures turns { (cs : List RowChange) → KeptWithin S.sound (S.known s.old).base (S.known s.old).seen t.table cs t.stamp → BatchTurns S.sound t.table cs (BatchState.Ending t) (S.known s.old) result.0 (S.known s.new) result.1 }
     ensures spends { (S.known s.old).alone ≡ true → (n : ℕ) → Spends n (S.left s.old) (BatchState.Ending t) (S.left s.new) result.0 result.1 }
     ensures one_call { S.one_call s.old s.new }
 {
@@ -209,7 +209,7 @@ pub(crate) fn advance<S: Steps>(
     requires some { changes.now ≢ [] }
     requires rows { length changes.now ≤ 1000 }
     requires distinct { is_distinct (rows_of changes.now) ≡ true }
-    requires fits { FitsBatch table changes.now state (S.known s.old) }
+    requires fits { FitsBatch S.sound table changes.now state (S.known s.old) }
     requires going { IsBatchGoing state }
     ensures turns { BatchTurns S.sound table changes.now state (S.known s.old) result.0 (S.known s.new) result.1 }
     ensures spends { (S.known s.old).alone ≡ true → (n : ℕ) → index_count (S.known s.new) table.0 ≤ n → Spends n (S.left s.old) state (S.left s.new) result.0 result.1 }

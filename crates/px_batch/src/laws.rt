@@ -17,11 +17,11 @@ use px_calls::Steps;
 
 /// Others' entries between two steps leave a batch under way as it is; its own steps carry it on, and its last one is its answer.
 pub fn law_turns<S: Steps>()
-    ensures others { (table : TableNumber) → (cs : List RowChange) → (s : States) → (k : Known) → (k' : Known) → TimePasses k k' → FitsBatch table cs s k → FitsBatch table cs s k' }
-    ensures starts { (table : TableNumber) → (cs : List RowChange) → (k : Known) → AreFitting k table.0 cs → SoFar table cs k k Beginning }
-    ensures steps { (table : TableNumber) → (cs : List RowChange) → (k0 : Known) → (k : Known) → (k' : Known) → (old : States) → (new : States) → SoFar table cs k0 k old → BatchTurns S.sound table cs old k new k' Stepped → SoFar table cs k0 k' new }
-    ensures waits { (table : TableNumber) → (cs : List RowChange) → (k0 : Known) → (k : Known) → (k' : Known) → (old : States) → (new : States) → (stamp : ℕ) → SoFar table cs k0 k old → BatchTurns S.sound table cs old k new k' (Waiting stamp) → SoFar table cs k0 k' new }
-    ensures ends { (table : TableNumber) → (cs : List RowChange) → (k0 : Known) → (k : Known) → (k' : Known) → (old : States) → (new : States) → (r : Result Receipts Faults) → SoFar table cs k0 k old → BatchTurns S.sound table cs old k new k' (Over r) → RanBatch S.sound table cs k0 k' r }
+    ensures others { (table : TableNumber) → (cs : List RowChange) → (s : States) → (k : Known) → (k' : Known) → TimePasses k k' → FitsBatch S.sound table cs s k → FitsBatch S.sound table cs s k' }
+    ensures starts { (table : TableNumber) → (cs : List RowChange) → (k : Known) → AreFitting k table.0 cs → SoFar S.sound table cs k k Beginning }
+    ensures steps { (table : TableNumber) → (cs : List RowChange) → (k0 : Known) → (k : Known) → (k' : Known) → (old : States) → (new : States) → SoFar S.sound table cs k0 k old → BatchTurns S.sound table cs old k new k' Stepped → SoFar S.sound table cs k0 k' new }
+    ensures waits { (table : TableNumber) → (cs : List RowChange) → (k0 : Known) → (k : Known) → (k' : Known) → (old : States) → (new : States) → (stamp : ℕ) → SoFar S.sound table cs k0 k old → BatchTurns S.sound table cs old k new k' (Waiting stamp) → SoFar S.sound table cs k0 k' new }
+    ensures ends { (table : TableNumber) → (cs : List RowChange) → (k0 : Known) → (k : Known) → (k' : Known) → (old : States) → (new : States) → (r : Result Receipts Faults) → SoFar S.sound table cs k0 k old → BatchTurns S.sound table cs old k new k' (Over r) → RanBatch S.sound table cs k0 k' r }
 {}
 
 /// A batch on a table of n indexes makes at most 6 + 2 n steps where nobody else acts, but those of upkeep, those that wait, and beginnings that are

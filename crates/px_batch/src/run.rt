@@ -41,7 +41,7 @@ impl BatchRun {
 
     /// Makes one call.
     pub fn step<S: Steps>(&mut self, s: &mut S) -> BatchTurn
-        requires fits { FitsBatch self.old.table self.old.changes self.old.state (S.known s.old) }
+        requires fits { FitsBatch S.sound self.old.table self.old.changes self.old.state (S.known s.old) }
         requires going { IsBatchGoing self.old.state }
         ensures table { self.new.table ≡ self.old.table }
         ensures changes { self.new.changes ≡ self.old.changes }

@@ -30,9 +30,9 @@ use Rattle.px_commanding.specs.declared.commit.CommitRun.TheVariants as run
 use Rattle.px_commanding.specs.declared.commit.CommitTurn.TheVariants as turn
 use Rattle.px_commanding.specs.Commits.{CommitFaultIs, CommitTurns, FitsCommit, HasRoomForOne, IsBegun, IsEnded, IsGone, unfound}
 
-pub fits-kept : (h : HeldData) (r : CommitRun) (k k' : Known) → TimePasses k k' → FitsCommit h r k → FitsCommit h r k'
-fits-kept h run.Finding k k' p f = tt
-fits-kept h (run.Changing r room) k k' p f = (f.0, f.1, batch-kept r.table r.changes r.state k k' p f.2, f.3, f.4)
+pub fits-kept : (sound : Type 0) (h : HeldData) (r : CommitRun) (k k' : Known) → TimePasses k k' → FitsCommit sound h r k → FitsCommit sound h r k'
+fits-kept sound h run.Finding k k' p f = tt
+fits-kept sound h (run.Changing r room) k k' p f = (f.0, f.1, batch-kept sound r.table r.changes r.state k k' p f.2, f.3, f.4)
 
 some_same : (x y : Table) → Some x ≡ Some y → x ≡ y
 some_same x y h = cc
@@ -51,7 +51,7 @@ module _ (sound : Type 0) (h : HeldData) where
   found-begun k k' f run.Finding did b = absurd b
   found-begun k k' f (run.Changing r room) did b =
       let ran = ran-sees k k' did.finds.sees in
-      let F : TableId × List Change × BatchState → Type 0 = λ q. batch.FitsBatch q.0 q.1 q.2 k' × batch.IsBatchGoing q.2 × ([] ≡ batch.begun_by_batch q.0 q.1 q.2) × ((n : ℕ) → n ≤ length k'.seen → batch.IsBatchSince n q.2 k') in
+      let F : TableId × List Change × BatchState → Type 0 = λ q. batch.FitsBatch sound q.0 q.1 q.2 k' × batch.IsBatchGoing q.2 × ([] ≡ batch.begun_by_batch q.0 q.1 q.2) × ((n : ℕ) → n ≤ length k'.seen → batch.IsBatchSince n q.2 k') in
       let new = subst F (λ i. (sym b.1 i, sym b.2 i, sym b.3 i)) (all-fitting k' f h.table h.changes did.found b.0 b.4, tt, refl, λ n low. low) in
       record { acts = []; ran = ran; told = ((b.1, b.2, new.0, new.1, b.5), new.2); since = λ n low. new.3 n (grown k k' [] n ran low) }
 
@@ -87,19 +87,19 @@ module _ (sound : Type 0) (h : HeldData) where
 
   -- 3. The batch goes on, and is over
 
-  stays : (old new : BatchRun) (room : Vec Receipt Global) (k k' : Known) (acts : List Act) → FitsCommit h (run.Changing old room) k → new.table ≡ old.table → new.changes ≡ old.changes → batch.FitsBatch old.table old.changes new.state k' → batch.IsBatchGoing new.state
+  stays : (old new : BatchRun) (room : Vec Receipt Global) (k k' : Known) (acts : List Act) → FitsCommit sound h (run.Changing old room) k → new.table ≡ old.table → new.changes ≡ old.changes → batch.FitsBatch sound old.table old.changes new.state k' → batch.IsBatchGoing new.state
       → batch.begun_by_batch old.table old.changes old.state ++ outline acts ≡ batch.begun_by_batch old.table old.changes new.state
-      → FitsCommit h (run.Changing new room) k' × (batch.begun_by_batch old.table old.changes old.state ++ outline acts ≡ batch.begun_by_batch new.table new.changes new.state)
+      → FitsCommit sound h (run.Changing new room) k' × (batch.begun_by_batch old.table old.changes old.state ++ outline acts ≡ batch.begun_by_batch new.table new.changes new.state)
   stays old new room k k' acts f table changes fits going sum =
-      let F : TableId × List Change → Type 0 = λ q. batch.FitsBatch q.0 q.1 new.state k' × (batch.begun_by_batch old.table old.changes old.state ++ outline acts ≡ batch.begun_by_batch q.0 q.1 new.state) in
+      let F : TableId × List Change → Type 0 = λ q. batch.FitsBatch sound q.0 q.1 new.state k' × (batch.begun_by_batch old.table old.changes old.state ++ outline acts ≡ batch.begun_by_batch q.0 q.1 new.state) in
       let now = subst F (λ i. (sym table i, sym changes i)) (fits, sum) in
       ((table ∙ f.0, changes ∙ f.1, now.0, going, f.4), now.1)
 
-  pub goes-on : (old new : BatchRun) (room : Vec Receipt Global) (k k' : Known) → FitsCommit h (run.Changing old room) k → new.table ≡ old.table → new.changes ≡ old.changes → batch.BatchTurns sound old.table old.changes old.state k new.state k' bt.Stepped
+  pub goes-on : (old new : BatchRun) (room : Vec Receipt Global) (k k' : Known) → FitsCommit sound h (run.Changing old room) k → new.table ≡ old.table → new.changes ≡ old.changes → batch.BatchTurns sound old.table old.changes old.state k new.state k' bt.Stepped
       → CommitTurns sound h (run.Changing old room) k k' (turn.Stepped (run.Changing new room))
   goes-on old new room k k' f table changes t = record { acts = t.acts; ran = t.ran; told = stays old new room k k' t.acts f table changes t.fits t.told.0 t.told.1; since = λ n low. t.since n low }
 
-  pub waits : (old new : BatchRun) (room : Vec Receipt Global) (k k' : Known) (stamp : ℕ) → FitsCommit h (run.Changing old room) k → new.table ≡ old.table → new.changes ≡ old.changes → batch.BatchTurns sound old.table old.changes old.state k new.state k' (bt.Waiting stamp)
+  pub waits : (old new : BatchRun) (room : Vec Receipt Global) (k k' : Known) (stamp : ℕ) → FitsCommit sound h (run.Changing old room) k → new.table ≡ old.table → new.changes ≡ old.changes → batch.BatchTurns sound old.table old.changes old.state k new.state k' (bt.Waiting stamp)
       → CommitTurns sound h (run.Changing old room) k k' (turn.Waiting (run.Changing new room))
   waits old new room k k' stamp f table changes t = record { acts = t.acts; ran = t.ran; told = stays old new room k k' t.acts f table changes t.fits t.told.0 t.told.1; since = λ n low. t.since n low }
 
@@ -112,10 +112,10 @@ module _ (sound : Type 0) (h : HeldData) where
   fault-is (fault.Closed call) k is = is
   fault-is fault.Memory k is = is
 
-  pub is-over : (old new : BatchRun) (room : Vec Receipt Global) (k k' : Known) (r : Result Receipt BatchFault) (out : Result (Vec Receipt Global) BatchFault) → FitsCommit h (run.Changing old room) k → batch.BatchTurns sound old.table old.changes old.state k new.state k' (bt.Over r)
+  pub is-over : (old new : BatchRun) (room : Vec Receipt Global) (k k' : Known) (r : Result Receipt BatchFault) (out : Result (Vec Receipt Global) BatchFault) → FitsCommit sound h (run.Changing old room) k → batch.BatchTurns sound old.table old.changes old.state k new.state k' (bt.Over r)
       → IsEnded r out → CommitTurns sound h (run.Changing old room) k k' (turn.Over out)
   is-over old new room k k' (Ok r) (Ok rs) f t e =
-      let F : TableId × List Change → Type 0 = λ q. batch.HasEndedBatch q.0 q.1 (batch.begun_by_batch old.table old.changes old.state ++ outline t.acts) k' r in
+      let F : TableId × List Change → Type 0 = λ q. batch.HasEndedBatch sound q.0 q.1 (batch.begun_by_batch old.table old.changes old.state ++ outline t.acts) k' r in
       record { acts = t.acts; ran = t.ran; told = (r, e, subst F (λ i. (f.0 i, f.1 i)) t.told.1); since = λ n low. tt }
   is-over old new room k k' (Ok r) (Err g) f t e = absurd e
   is-over old new room k k' (Err x) (Ok rs) f t e = absurd e

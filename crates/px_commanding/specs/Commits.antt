@@ -44,9 +44,9 @@ abbrev pub HasRoomForOne : Vec Receipt Global → Type 0
 HasRoomForOne v = (v.items ≡ []) × (0 < vec_capacity v)
 
 -- The state is as the trail tells, where these changes are held. Others' entries keep this
-abbrev pub FitsCommit : HeldData → CommitRun → Known → Type 0
-FitsCommit h run.Finding k = Unit {0}
-FitsCommit h (run.Changing r room) k = (r.table ≡ h.table) × (r.changes ≡ h.changes) × batch.FitsBatch r.table r.changes r.state k × batch.IsBatchGoing r.state × HasRoomForOne room
+abbrev pub FitsCommit : Type 0 → HeldData → CommitRun → Known → Type 0
+FitsCommit sound h run.Finding k = Unit {0}
+FitsCommit sound h (run.Changing r room) k = (r.table ≡ h.table) × (r.changes ≡ h.changes) × batch.FitsBatch sound r.table r.changes r.state k × batch.IsBatchGoing r.state × HasRoomForOne room
 
 -- what the run has begun and not ended
 abbrev pub begun_by_commit : CommitRun → List Act
@@ -77,13 +77,13 @@ IsEnded came r = ⊥
 -- What a commit comes to, where `own` is what the seat began and ended for it: one batch of exactly the held changes, with its receipt; or
 -- none, unless the server was closed under it
 abbrev pub IsCommitOutcome : Type 0 → HeldData → List Act → Known → Result (Vec Receipt Global) BatchFault → Type 0
-IsCommitOutcome sound h own k (Ok rs) = (r : Receipt) × (rs.items ≡ r ∷ []) × batch.HasEndedBatch h.table h.changes own k r
+IsCommitOutcome sound h own k (Ok rs) = (r : Receipt) × (rs.items ≡ r ∷ []) × batch.HasEndedBatch sound h.table h.changes own k r
 IsCommitOutcome sound h own k (Err f) = CommitFaultIs sound h f k × batch.HasLeft h.table h.changes f own k
 
 -- it goes on, or is over, where `own` is what the seat did for it so far
 abbrev pub Told : Type 0 → HeldData → List Act → Known → CommitTurn → Type 0
-Told sound h own k (turn.Stepped r) = FitsCommit h r k × (own ≡ begun_by_commit r)
-Told sound h own k (turn.Waiting r) = FitsCommit h r k × (own ≡ begun_by_commit r)
+Told sound h own k (turn.Stepped r) = FitsCommit sound h r k × (own ≡ begun_by_commit r)
+Told sound h own k (turn.Waiting r) = FitsCommit sound h r k × (own ≡ begun_by_commit r)
 Told sound h own k (turn.Over r) = IsCommitOutcome sound h own k r
 
 abbrev pub IsCommitSinceThen : ℕ → Known → CommitTurn → Type 0

@@ -114,8 +114,8 @@ fn ended(
 
 /// Goes on with the batch.
 fn change<S: Steps>(s: &mut S, mut run: BatchRun, receipts: Vec<Receipt>) -> CommitTurn
-    requires { (h : HeldData) × FitsCommit h (CommitRun.Changing run receipts) (S.known s.old) }
-    ensures turns { (h : HeldData) → FitsCommit h (CommitRun.Changing run receipts) (S.known s.old) → CommitTurns S.sound h (CommitRun.Changing run receipts) (S.known s.old) (S.known s.new) result }
+    requires { (h : HeldData) × FitsCommit S.sound h (CommitRun.Changing run receipts) (S.known s.old) }
+    ensures turns { (h : HeldData) → FitsCommit S.sound h (CommitRun.Changing run receipts) (S.known s.old) → CommitTurns S.sound h (CommitRun.Changing run receipts) (S.known s.old) (S.known s.new) result }
     ensures one_call { S.one_call s.old s.new }
 {
     match run.step(s) {
@@ -138,7 +138,7 @@ impl CommitRun {
 
     /// Makes one call, for these changes.
     pub fn step<S: Steps>(self, alloc: Global, s: &mut S, held: &HeldChanges) -> CommitTurn
-        requires { FitsCommit held.now self (S.known s.old) }
+        requires { FitsCommit S.sound held.now self (S.known s.old) }
         ensures turns { CommitTurns S.sound held.now self (S.known s.old) (S.known s.new) result }
         ensures one_call { S.one_call s.old s.new }
     {

@@ -90,8 +90,8 @@ same_changes : (o : Option Batch) (xs ys : List Change) → HasChanges o xs → 
 same_changes None xs ys h k = absurd h
 same_changes (Some x) xs ys h k = sym h ∙ k
 
-part_counted : (k : Known) (t : TableId) (cs : List Change) (acts : List Act) (r : Receipt) → IsLegal k.base k.seen → IsAmong (Begun t r.stamp cs) (acts_by k.seat k.seen) → HasMadeBatch k t cs acts r → r.rows ≡ length cs
-part_counted k t cs acts r legal among h =
+part_counted : (sound : Type 0) (k : Known) (t : TableId) (cs : List Change) (acts : List Act) (r : Receipt) → IsLegal k.base k.seen → IsAmong (Begun t r.stamp cs) (acts_by k.seat k.seen) → HasMadeBatch sound k t cs acts r → r.rows ≡ length cs
+part_counted sound k t cs acts r legal among h =
     let receipt = h.ended.receipt in
     let now : HasChanges (batch_of t.0 r.stamp k.seen) cs = begun-has k.base k.seen k.seat t r.stamp cs legal among in
     let then_ : HasChanges (batch_of t.0 r.stamp h.past.seen) receipt.batch.changes = subst (λ (o : Option Batch). HasChanges o receipt.batch.changes) (sym receipt.is) refl in
@@ -103,15 +103,15 @@ unfolding IsAmong
 first_of t s cs acts others e = among-front (Begun t s cs) acts others (subst (λ (l : List Act). IsAmong (Begun t s cs) l) (sym e) (inl refl))
 
 -- and so do all of them together
-parts_counted : (k : Known) (t : TableId) (parts : List (List Change)) (rs : List Receipt) (acts : List Act) → IsLegal k.base k.seen → ((a : Act) → IsAmong a acts → IsAmong a (acts_by k.seat k.seen)) → AreMade k t parts rs acts
+parts_counted : (sound : Type 0) (k : Known) (t : TableId) (parts : List (List Change)) (rs : List Receipt) (acts : List Act) → IsLegal k.base k.seen → ((a : Act) → IsAmong a acts → IsAmong a (acts_by k.seat k.seen)) → AreMade sound k t parts rs acts
     → sum_by (λ r. r.rows) rs ≡ sum_by length parts
-parts_counted k t [] [] acts legal own h = refl
-parts_counted k t [] (r ∷ rs) acts legal own h = absurd h
-parts_counted k t (cs ∷ parts) [] acts legal own h = absurd h
-parts_counted k t (cs ∷ parts) (r ∷ rs) acts legal own h =
+parts_counted sound k t [] [] acts legal own h = refl
+parts_counted sound k t [] (r ∷ rs) acts legal own h = absurd h
+parts_counted sound k t (cs ∷ parts) [] acts legal own h = absurd h
+parts_counted sound k t (cs ∷ parts) (r ∷ rs) acts legal own h =
     let own' : (a : Act) → IsAmong a (h.0 ++ h.1) → IsAmong a (acts_by k.seat k.seen) = subst (λ (l : List Act). (a : Act) → IsAmong a l → IsAmong a (acts_by k.seat k.seen)) h.2 own in
-    let one : r.rows ≡ length cs = part_counted k t cs h.0 r legal (own' (Begun t r.stamp cs) (first_of t r.stamp cs h.0 h.1 h.3.ended.one)) h.3 in
-    let others : sum_by (λ (x : Receipt). x.rows) rs ≡ sum_by length parts = parts_counted k t parts rs h.1 legal (λ a m. own' a (among-append a h.0 h.1 m)) h.4 in
+    let one : r.rows ≡ length cs = part_counted sound k t cs h.0 r legal (own' (Begun t r.stamp cs) (first_of t r.stamp cs h.0 h.1 h.3.ended.one)) h.3 in
+    let others : sum_by (λ (x : Receipt). x.rows) rs ≡ sum_by length parts = parts_counted sound k t parts rs h.1 legal (λ a m. own' a (among-append a h.0 h.1 m)) h.4 in
     let left = sum_by-cons (λ (x : Receipt). x.rows) r rs in
     let right = sum_by-cons (λ (x : List Change). length x) cs parts in
     omega (arith, left, right, one, others)
@@ -149,7 +149,7 @@ removed_counted : (sound : Type 0) (p : Planned) (k k' : Known) (d : Deleted) (m
     → HasRemoved sound p (outline acts) k' d.receipts.items m → m.rows ≡ sum_by (λ r. r.rows) d.receipts.items
 removed_counted sound p k k' d m acts legal own h =
     let own' : (a : Act) → IsAmong a (h.finding ++ h.making) → IsAmong a (acts_by k'.seat k'.seen) = subst (λ (l : List Act). (a : Act) → IsAmong a l → IsAmong a (acts_by k'.seat k'.seen)) h.own_is own in
-    let sums = parts_counted k' p.table.id h.parts d.receipts.items h.making legal (λ a w. own' a (among-append a h.finding h.making w)) h.made in
+    let sums = parts_counted sound k' p.table.id h.parts d.receipts.items h.making legal (λ a w. own' a (among-append a h.finding h.making w)) h.made in
     let parts = split_length h.changes h.parts [] h.split in
     let rows = h.rows in
     omega arith

@@ -23,6 +23,7 @@ use Rattle.px_planned.specs.Queries.{query_of}
 use Rattle.px_planned.specs.declared.planned.Planned.{Planned}
 use Rattle.px_scan.specs.Faults as scan_faults
 use Rattle.px_scan.specs.Turns as scan
+use Rattle.px_scan.proofs.Quieting.{device-since}
 use Rattle.px_scan.specs.declared.answer.QueryFault.{QueryFault}
 use Rattle.px_scan.specs.declared.answer.QueryFault.TheVariants as unread
 use Rattle.px_scan.specs.declared.machine.QueryState.{QueryState}
@@ -114,7 +115,7 @@ finds-none sound p k k' run new f (turn.Over d) h t u = record {
   ran = t.ran;
   fits = tt;
   told = λ m own low e. (refl, unread_end sound p m (own ++ outline t.acts) k' f d u (came_to sound p k k' run t.acts own (Err f) h e t.told.1));
-  since = λ n from. unread_since n k' f d u (t.since n from);
+  since = λ n from. unread_since n k' f d u (device-since n (query_of run.scan.query) run.scan.scn f k' (t.since n from));
   edge = tt;
 }
 
@@ -142,16 +143,16 @@ none_end sound p n own k a cs d h r none rs e =
     }))
 
 -- the run of the next part
-next_fits : (p : Planned) (k : Known) (t : TableId) (cs : List Change) (run : BatchRun) (left : Left) → t ≡ p.table.id → IsNextRun t cs run left → IsLegal k.base k.seen → AreFitting k p.table.id.0 cs → IsStrictlySortedBy (key_order p.table.key) (rows_of cs)
-    → length (drop 1000 cs) + 1000 * (length left.receipts.items + 1) ≤ 1000 * vec_capacity left.receipts → FitsRemoving p run left k
-next_fits p k t cs run left e n legal f s room =
-    let fit : batch.FitsBatch p.table.id (take 1000 cs) batches.Beginning k = fitting-front k p.table.id.0 1000 cs f in
+next_fits : (sound : Type 0) (p : Planned) (k : Known) (t : TableId) (cs : List Change) (run : BatchRun) (left : Left) → t ≡ p.table.id → IsNextRun t cs run left → IsLegal k.base k.seen → AreFitting k p.table.id.0 cs → IsStrictlySortedBy (key_order p.table.key) (rows_of cs)
+    → length (drop 1000 cs) + 1000 * (length left.receipts.items + 1) ≤ 1000 * vec_capacity left.receipts → FitsRemoving sound p run left k
+next_fits sound p k t cs run left e n legal f s room =
+    let fit : batch.FitsBatch sound p.table.id (take 1000 cs) batches.Beginning k = fitting-front k p.table.id.0 1000 cs f in
     record {
       legal = legal;
       table = n.table ∙ e;
       left_table = n.left_table ∙ e;
-      fits = subst (λ (i : TableId). batch.FitsBatch i run.changes run.state k) (sym (n.table ∙ e))
-          (subst (λ (l : List Change). batch.FitsBatch p.table.id l run.state k) (sym n.part) (subst (λ (b : BatchState). batch.FitsBatch p.table.id (take 1000 cs) b k) (sym n.beginning) fit));
+      fits = subst (λ (i : TableId). batch.FitsBatch sound i run.changes run.state k) (sym (n.table ∙ e))
+          (subst (λ (l : List Change). batch.FitsBatch sound p.table.id l run.state k) (sym n.part) (subst (λ (b : BatchState). batch.FitsBatch sound p.table.id (take 1000 cs) b k) (sym n.beginning) fit));
       going = subst (λ (b : BatchState). batch.IsBatchGoing b) (sym n.beginning) tt;
       ordered = subst (λ (l : List Change). IsStrictlySortedBy (key_order p.table.key) (rows_of l)) (sym n.behind) (sorted-rest p.table.key 1000 cs s);
       fitting = subst (λ (l : List Change). AreFitting k p.table.id.0 l) (sym n.behind) (fitting-rest k p.table.id.0 1000 cs f);
@@ -181,7 +182,7 @@ found-then sound p k k' run ended a cs (state.Removing next left) turn.Stepped h
     record {
       acts = t.acts;
       ran = t.ran;
-      fits = next_fits p k' p.table.id cs next left refl n can.legal (fitting-now k' p cs can f) r.ordered
+      fits = next_fits sound p k' p.table.id cs next left refl n can.legal (fitting-now k' p cs can f) r.ordered
           (subst (λ (rs : List Receipt). length (drop 1000 cs) + 1000 * (length rs + 1) ≤ 1000 * vec_capacity left.receipts) (sym w.1) (first_room cs (vec_capacity left.receipts) n.some w.2));
       told = λ m own low e. (
         tt,
@@ -192,7 +193,7 @@ found-then sound p k k' run ended a cs (state.Removing next left) turn.Stepped h
           finding = own ++ outline t.acts;
           making = [];
           found = found-now sound p (own ++ outline t.acts) k' a left.first cs (sym w.4) o r;
-          made = subst (λ (rs : List Receipt). AreMade k' p.table.id [] rs []) (sym w.1) refl;
+          made = subst (λ (rs : List Receipt). AreMade sound k' p.table.id [] rs []) (sym w.1) refl;
           split = refl;
           some = n.some;
           part = n.part;
@@ -249,13 +250,13 @@ since_found : (sound : Type 0) (p : Planned) (k k' : Known) (first : ℕ) (findi
     → outline (acts_by k'.seat (found-later sound p k k' first finding cs (ran-later k k' acts r) f).was.more) ≡ making ++ (began ++ outline acts)
 since_found sound p k k' first finding cs acts making began r f e = since-ran sound p k k' first finding cs acts r f ∙ (ap (λ (l : List Act). l ++ outline acts) e ∙ append_assoc making began (outline acts))
 
-removing_fits : (sound : Type 0) (p : Planned) (k k' : Known) (run new : BatchRun) (left : Left) (acts : List Act) → new.table ≡ run.table → new.changes ≡ run.changes → FitsRemoving p run left k → Ran k k' acts
-    → batch.FitsBatch run.table run.changes new.state k' → batch.IsBatchGoing new.state → FitsRemoving p new left k'
+removing_fits : (sound : Type 0) (p : Planned) (k k' : Known) (run new : BatchRun) (left : Left) (acts : List Act) → new.table ≡ run.table → new.changes ≡ run.changes → FitsRemoving sound p run left k → Ran k k' acts
+    → batch.FitsBatch sound run.table run.changes new.state k' → batch.IsBatchGoing new.state → FitsRemoving sound p new left k'
 removing_fits sound p k k' run new left acts e c h r fits going = record {
   legal = r.legal h.legal;
   table = e ∙ h.table;
   left_table = h.left_table;
-  fits = subst (λ (i : TableId). batch.FitsBatch i new.changes new.state k') (sym e) (subst (λ (l : List Change). batch.FitsBatch run.table l new.state k') (sym c) fits);
+  fits = subst (λ (i : TableId). batch.FitsBatch sound i new.changes new.state k') (sym e) (subst (λ (l : List Change). batch.FitsBatch sound run.table l new.state k') (sym c) fits);
   going = going;
   ordered = h.ordered;
   fitting = fitting-later k k' p.table.id.0 left.changes.items (ran-later k k' acts r) (r.legal h.legal) h.fitting;
@@ -279,7 +280,7 @@ removing_done sound p k k' run new left acts own e c r goes d =
       finding = d.finding;
       making = d.making;
       found = found-later sound p k k' left.first d.finding d.changes later d.found;
-      made = all-later k k' p.table.id d.parts left.receipts.items d.making later d.made;
+      made = all-later sound k k' p.table.id d.parts left.receipts.items d.making later d.made;
       split = d.split;
       some = d.some;
       part = c ∙ d.part;
@@ -289,7 +290,7 @@ removing_done sound p k k' run new left acts own e c r goes d =
       found_first = since_found sound p k k' left.first d.finding d.changes acts d.making (batch.begun_by_batch p.table.id run.changes run.state) r d.found d.found_first ∙ ap (λ (l : List Act). d.making ++ l) here;
     }
 
-pub removes-on : (sound : Type 0) (p : Planned) (k k' : Known) (run new : BatchRun) (left : Left) → new.table ≡ run.table → new.changes ≡ run.changes → FitsRemoving p run left k
+pub removes-on : (sound : Type 0) (p : Planned) (k k' : Known) (run new : BatchRun) (left : Left) → new.table ≡ run.table → new.changes ≡ run.changes → FitsRemoving sound p run left k
     → batch.BatchTurns sound run.table run.changes run.state k new.state k' came.Stepped → DeleteTurns sound p (state.Removing run left) k (state.Removing new left) k' turn.Stepped
 removes-on sound p k k' run new left e c h t = record {
   acts = t.acts;
@@ -300,7 +301,7 @@ removes-on sound p k k' run new left e c h t = record {
   edge = tt;
 }
 
-pub removes-waiting : (sound : Type 0) (p : Planned) (k k' : Known) (run new : BatchRun) (left : Left) (stamp : ℕ) → new.table ≡ run.table → new.changes ≡ run.changes → FitsRemoving p run left k
+pub removes-waiting : (sound : Type 0) (p : Planned) (k k' : Known) (run new : BatchRun) (left : Left) (stamp : ℕ) → new.table ≡ run.table → new.changes ≡ run.changes → FitsRemoving sound p run left k
     → batch.BatchTurns sound run.table run.changes run.state k new.state k' (came.Waiting stamp) → DeleteTurns sound p (state.Removing run left) k (state.Removing new left) k' (turn.Waiting stamp)
 removes-waiting sound p k k' run new left stamp e c h t = record {
   acts = t.acts;
@@ -322,8 +323,8 @@ outcome_is : (sound : Type 0) (p : Planned) (k : Known) (run : BatchRun) (acts :
     → batch.IsBatchOutcome sound run.table run.changes (batch.begun_by_batch run.table run.changes run.state ++ outline acts) k r → batch.IsBatchOutcome sound p.table.id run.changes (mine p run acts) k r
 outcome_is sound p k run acts r e h = subst (λ (i : TableId). batch.IsBatchOutcome sound i run.changes (batch.begun_by_batch i run.changes run.state ++ outline acts) k r) e h
 
-has_made : (p : Planned) (k : Known) (run : BatchRun) (acts : List Act) (r : Receipt) → batch.HasEndedBatch p.table.id run.changes (mine p run acts) k r → HasMadeBatch k p.table.id run.changes (mine p run acts) r
-has_made p k run acts r h = record { past = k; was = was-now k; ended = h }
+has_made : (sound : Type 0) (p : Planned) (k : Known) (run : BatchRun) (acts : List Act) (r : Receipt) → batch.HasEndedBatch sound p.table.id run.changes (mine p run acts) k r → HasMadeBatch sound k p.table.id run.changes (mine p run acts) r
+has_made sound p k run acts r h = record { past = k; was = was-now k; ended = h }
 
 -- one part more is removed
 record OneMore (sound : Type 0) (p : Planned) (own : List Act) (k : Known) (left : Left) (r : Receipt) : Type 0 where
@@ -332,13 +333,13 @@ record OneMore (sound : Type 0) (p : Planned) (own : List Act) (k : Known) (left
   finding : List Act
   making : List Act
   found : HasFoundRows sound p k left.first finding changes
-  made : AreMade k p.table.id parts (left.receipts.items ++ r ∷ []) making
+  made : AreMade sound k p.table.id parts (left.receipts.items ++ r ∷ []) making
   split : IsSplit changes parts left.changes.items
   rows : left.rows ≡ length changes
   own_is : own ≡ finding ++ making
   found_first : outline (acts_by k.seat found.was.more) ≡ making
 
-one_more : (sound : Type 0) (p : Planned) (k k' : Known) (run : BatchRun) (left : Left) (acts own : List Act) (r : Receipt) → Ran k k' acts → batch.HasEndedBatch p.table.id run.changes (mine p run acts) k' r → IsRemoving sound p own k run left
+one_more : (sound : Type 0) (p : Planned) (k k' : Known) (run : BatchRun) (left : Left) (acts own : List Act) (r : Receipt) → Ran k k' acts → batch.HasEndedBatch sound p.table.id run.changes (mine p run acts) k' r → IsRemoving sound p own k run left
     → OneMore sound p (own ++ outline acts) k' left r
 one_more sound p k k' run left acts own r ran ended d =
     let later = ran-later k k' acts ran in
@@ -348,7 +349,7 @@ one_more sound p k k' run left acts own r ran ended d =
       finding = d.finding;
       making = d.making ++ mine p run acts;
       found = found-later sound p k k' left.first d.finding d.changes later d.found;
-      made = made-more k' p.table.id d.parts left.receipts.items d.making run.changes r (mine p run acts) (all-later k k' p.table.id d.parts left.receipts.items d.making later d.made) (has_made p k' run acts r ended);
+      made = made-more sound k' p.table.id d.parts left.receipts.items d.making run.changes r (mine p run acts) (all-later sound k k' p.table.id d.parts left.receipts.items d.making later d.made) (has_made sound p k' run acts r ended);
       split = subst (λ (l : List Change). IsSplit d.changes (d.parts ++ l ∷ []) left.changes.items) (sym d.part)
           (subst (λ (l : List Change). IsSplit d.changes (d.parts ++ take 1000 d.rest ∷ []) l) (sym d.behind) (split-more d.changes d.parts d.rest d.split d.some));
       rows = d.rows;
@@ -409,7 +410,7 @@ going_on sound p own k left new next r o n rs rows first = record {
   finding = o.finding;
   making = o.making;
   found = found-at sound p k left.first new.first o.finding o.changes (sym first) o.found;
-  made = subst (λ (l : List Receipt). AreMade k p.table.id o.parts l o.making) (sym rs) o.made;
+  made = subst (λ (l : List Receipt). AreMade sound k p.table.id o.parts l o.making) (sym rs) o.made;
   split = o.split;
   some = n.some;
   part = n.part;
@@ -436,14 +437,14 @@ room_for left new r some h rs cap =
 ended_at : (sound : Type 0) (n : ℕ) (table : TableId) (cs : List Change) (own : List Act) (k : Known) (r : Receipt) → batch.IsBatchOutcome sound table cs own k (Ok r) → n ≤ r.at → n ≤ length k.seen
 ended_at sound n table cs own k r o h = let e = o.receipt.at in omega arith
 
-pub removes-then : (sound : Type 0) (p : Planned) (k k' : Known) (run : BatchRun) (left : Left) (ended : BatchState) (r : Receipt) (new : DeleteState) (t : DeleteTurn) → FitsRemoving p run left k
+pub removes-then : (sound : Type 0) (p : Planned) (k k' : Known) (run : BatchRun) (left : Left) (ended : BatchState) (r : Receipt) (new : DeleteState) (t : DeleteTurn) → FitsRemoving sound p run left k
     → batch.BatchTurns sound run.table run.changes run.state k ended k' (came.Over (Ok r)) → IsAfterBatch left r new t → DeleteTurns sound p (state.Removing run left) k new k' t
 removes-then sound p k k' run left ended r (state.Removing next new) turn.Stepped h t w =
     let legal = t.ran.legal h.legal in
     record {
       acts = t.acts;
       ran = t.ran;
-      fits = next_fits p k' left.table left.changes.items next new h.left_table w.0 legal (fitting-later k k' p.table.id.0 left.changes.items (ran-later k k' t.acts t.ran) legal h.fitting) h.ordered (room_for left new r w.0.some h.room w.1 w.2);
+      fits = next_fits sound p k' left.table left.changes.items next new h.left_table w.0 legal (fitting-later k k' p.table.id.0 left.changes.items (ran-later k k' t.acts t.ran) legal h.fitting) h.ordered (room_for left new r w.0.some h.room w.1 w.2);
       told = λ m own low d. (tt, going_on sound p (own ++ outline t.acts) k' left new next r (one_more sound p k k' run left t.acts own r t.ran (outcome_is sound p k' run t.acts (Ok r) h.table t.told.1) d) w.0 w.1 w.3 w.4);
       since = λ n from. (subst (λ (x : ℕ). n ≤ x) (sym w.4) from.0, since_begin n next.state k' w.0.beginning (ended_at sound n run.table run.changes _ k' r t.told.1 (t.since n from.1)));
       edge = tt;
@@ -482,7 +483,7 @@ stopped_end sound p m k k' run left acts own f d low ran o b s =
         making = b.making;
         stopping = mine p run acts;
         found = found-later sound p k k' left.first b.finding b.changes later b.found;
-        made = all-later k k' p.table.id b.parts left.receipts.items b.making later b.made;
+        made = all-later sound k k' p.table.id b.parts left.receipts.items b.making later b.made;
         split = b.split;
         some = b.some;
         outcome = subst (λ (l : List Change). batch.IsBatchOutcome sound p.table.id l (mine p run acts) k' (Err f)) b.part o;
@@ -492,7 +493,7 @@ stopped_end sound p m k k' run left acts own f d low ran o b s =
       low,
     ))
 
-pub removes-no-more : (sound : Type 0) (p : Planned) (k k' : Known) (run : BatchRun) (left : Left) (ended : BatchState) (f : BatchFault) (t : DeleteTurn) → FitsRemoving p run left k
+pub removes-no-more : (sound : Type 0) (p : Planned) (k k' : Known) (run : BatchRun) (left : Left) (ended : BatchState) (f : BatchFault) (t : DeleteTurn) → FitsRemoving sound p run left k
     → batch.BatchTurns sound run.table run.changes run.state k ended k' (came.Over (Err f)) → IsStopped left.receipts.items f t → DeleteTurns sound p (state.Removing run left) k state.Over k' t
 removes-no-more sound p k k' run left ended f turn.Stepped h t s = absurd s
 removes-no-more sound p k k' run left ended f (turn.Waiting n) h t s = absurd s

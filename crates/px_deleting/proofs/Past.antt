@@ -87,23 +87,23 @@ pub since-now : (sound : Type 0) (p : Planned) (own : List Act) (k : Known) (a :
 unfolding found-now was-now acts_by
 since-now sound p own k a first cs e h r = refl
 
-pub made-later : (k k' : Known) (t : TableId) (cs : List Change) (acts : List Act) (r : Receipt) → Later k k' → HasMadeBatch k t cs acts r → HasMadeBatch k' t cs acts r
-made-later k k' t cs acts r h m = record { past = m.past; was = was-later m.past k k' h m.was; ended = m.ended }
+pub made-later : (sound : Type 0) (k k' : Known) (t : TableId) (cs : List Change) (acts : List Act) (r : Receipt) → Later k k' → HasMadeBatch sound k t cs acts r → HasMadeBatch sound k' t cs acts r
+made-later sound k k' t cs acts r h m = record { past = m.past; was = was-later m.past k k' h m.was; ended = m.ended }
 
-pub all-later : (k k' : Known) (t : TableId) (parts : List (List Change)) (rs : List Receipt) (acts : List Act) → Later k k' → AreMade k t parts rs acts → AreMade k' t parts rs acts
-all-later k k' t [] [] acts h m = m
-all-later k k' t [] (r ∷ rs) acts h m = absurd m
-all-later k k' t (cs ∷ parts) [] acts h m = absurd m
-all-later k k' t (cs ∷ parts) (r ∷ rs) acts h m = (m.0, m.1, m.2, made-later k k' t cs m.0 r h m.3, all-later k k' t parts rs m.1 h m.4)
+pub all-later : (sound : Type 0) (k k' : Known) (t : TableId) (parts : List (List Change)) (rs : List Receipt) (acts : List Act) → Later k k' → AreMade sound k t parts rs acts → AreMade sound k' t parts rs acts
+all-later sound k k' t [] [] acts h m = m
+all-later sound k k' t [] (r ∷ rs) acts h m = absurd m
+all-later sound k k' t (cs ∷ parts) [] acts h m = absurd m
+all-later sound k k' t (cs ∷ parts) (r ∷ rs) acts h m = (m.0, m.1, m.2, made-later sound k k' t cs m.0 r h m.3, all-later sound k k' t parts rs m.1 h m.4)
 
 -- one batch more
-pub made-more : (k : Known) (t : TableId) (parts : List (List Change)) (rs : List Receipt) (acts : List Act) (cs : List Change) (r : Receipt) (mine : List Act) → AreMade k t parts rs acts → HasMadeBatch k t cs mine r
-    → AreMade k t (parts ++ cs ∷ []) (rs ++ r ∷ []) (acts ++ mine)
-made-more k t [] [] acts cs r mine m h = (mine, [], ap (λ (l : List Act). l ++ mine) m ∙ sym (append-nil mine), h, refl)
-made-more k t [] (x ∷ rs) acts cs r mine m h = absurd m
-made-more k t (c ∷ parts) [] acts cs r mine m h = absurd m
-made-more k t (c ∷ parts) (x ∷ rs) acts cs r mine m h =
-    (m.0, m.1 ++ mine, ap (λ (l : List Act). l ++ mine) m.2 ∙ append_assoc m.0 m.1 mine, m.3, made-more k t parts rs m.1 cs r mine m.4 h)
+pub made-more : (sound : Type 0) (k : Known) (t : TableId) (parts : List (List Change)) (rs : List Receipt) (acts : List Act) (cs : List Change) (r : Receipt) (mine : List Act) → AreMade sound k t parts rs acts → HasMadeBatch sound k t cs mine r
+    → AreMade sound k t (parts ++ cs ∷ []) (rs ++ r ∷ []) (acts ++ mine)
+made-more sound k t [] [] acts cs r mine m h = (mine, [], ap (λ (l : List Act). l ++ mine) m ∙ sym (append-nil mine), h, refl)
+made-more sound k t [] (x ∷ rs) acts cs r mine m h = absurd m
+made-more sound k t (c ∷ parts) [] acts cs r mine m h = absurd m
+made-more sound k t (c ∷ parts) (x ∷ rs) acts cs r mine m h =
+    (m.0, m.1 ++ mine, ap (λ (l : List Act). l ++ mine) m.2 ∙ append_assoc m.0 m.1 mine, m.3, made-more sound k t parts rs m.1 cs r mine m.4 h)
 
 -- 3. The table
 

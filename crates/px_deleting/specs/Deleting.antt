@@ -61,16 +61,16 @@ pub record HasFoundRows (sound : Type 0) (p : Planned) (k : Known) (first : ℕ)
   pub removals : AreRemovals p.table.key answer.shown.rows cs
 
 -- the batch was begun and ended, and has this receipt
-pub record HasMadeBatch (k : Known) (t : TableId) (cs : List Change) (acts : List Act) (r : Receipt) : Type 0 where
+pub record HasMadeBatch (sound : Type 0) (k : Known) (t : TableId) (cs : List Change) (acts : List Act) (r : Receipt) : Type 0 where
   pub past : Known
   pub was : WasKnown past k
-  pub ended : batch.HasEndedBatch t cs acts past r
+  pub ended : batch.HasEndedBatch sound t cs acts past r
 
 -- these batches were made, one after another
-abbrev pub AreMade : Known → TableId → List (List Change) → List Receipt → List Act → Type 0
-AreMade k t [] [] acts = acts ≡ []
-AreMade k t (cs ∷ parts) (r ∷ rs) acts = (mine : List Act) × (others : List Act) × (acts ≡ mine ++ others) × HasMadeBatch k t cs mine r × AreMade k t parts rs others
-AreMade k t parts rs acts = ⊥
+abbrev pub AreMade : Type 0 → Known → TableId → List (List Change) → List Receipt → List Act → Type 0
+AreMade sound k t [] [] acts = acts ≡ []
+AreMade sound k t (cs ∷ parts) (r ∷ rs) acts = (mine : List Act) × (others : List Act) × (acts ≡ mine ++ others) × HasMadeBatch sound k t cs mine r × AreMade sound k t parts rs others
+AreMade sound k t parts rs acts = ⊥
 
 -- The rows are found, some of their parts are removed, and the next one is under way. Since they were found the seat has done no more than that
 pub record IsRemoving (sound : Type 0) (p : Planned) (own : List Act) (k : Known) (run : BatchRun) (left : Left) : Type 0 where
@@ -80,7 +80,7 @@ pub record IsRemoving (sound : Type 0) (p : Planned) (own : List Act) (k : Known
   pub finding : List Act
   pub making : List Act
   pub found : HasFoundRows sound p k left.first finding changes
-  pub made : AreMade k p.table.id parts left.receipts.items making
+  pub made : AreMade sound k p.table.id parts left.receipts.items making
   pub split : IsSplit changes parts rest
   pub some : rest ≢ []
   pub part : run.changes ≡ take 1000 rest
@@ -115,11 +115,11 @@ pub record FitsFinding (sound : Type 0) (p : Planned) (run : SelectRun) (k : Kno
   pub going : scan.IsQueryGoing run.scan.state
 
 -- a batch of them is being removed, and there is room for the receipts of all batches that are left
-pub record FitsRemoving (p : Planned) (run : BatchRun) (left : Left) (k : Known) : Type 0 where
+pub record FitsRemoving (sound : Type 0) (p : Planned) (run : BatchRun) (left : Left) (k : Known) : Type 0 where
   pub legal : IsLegal k.base k.seen
   pub table : run.table ≡ p.table.id
   pub left_table : left.table ≡ p.table.id
-  pub fits : batch.FitsBatch run.table run.changes run.state k
+  pub fits : batch.FitsBatch sound run.table run.changes run.state k
   pub going : batch.IsBatchGoing run.state
   pub ordered : IsStrictlySortedBy (key_order p.table.key) (rows_of left.changes.items)
   pub fitting : AreFitting k p.table.id.0 left.changes.items
@@ -128,7 +128,7 @@ pub record FitsRemoving (p : Planned) (run : BatchRun) (left : Left) (k : Known)
 -- The state is as the trail tells. Others' entries keep this
 abbrev pub FitsDelete : Type 0 → Planned → DeleteState → Known → Type 0
 FitsDelete sound p (state.Finding run) k = FitsFinding sound p run k
-FitsDelete sound p (state.Removing run left) k = FitsRemoving p run left k
+FitsDelete sound p (state.Removing run left) k = FitsRemoving sound p run left k
 FitsDelete sound p state.Over k = Unit {0}
 
 abbrev pub IsDeleteGoing : DeleteState → Type 0
@@ -150,7 +150,7 @@ pub record HasRemoved (sound : Type 0) (p : Planned) (own : List Act) (k : Known
   pub finding : List Act
   pub making : List Act
   pub found : HasFoundRows sound p k m.first finding changes
-  pub made : AreMade k p.table.id parts rs making
+  pub made : AreMade sound k p.table.id parts rs making
   pub split : IsSplit changes parts []
   pub rows : m.rows ≡ length changes
   pub own_is : own ≡ finding ++ making
@@ -166,7 +166,7 @@ pub record HasStopped (sound : Type 0) (p : Planned) (own : List Act) (k : Known
   pub making : List Act
   pub stopping : List Act
   pub found : HasFoundRows sound p k first finding changes
-  pub made : AreMade k p.table.id parts rs making
+  pub made : AreMade sound k p.table.id parts rs making
   pub split : IsSplit changes parts rest
   pub some : rest ≢ []
   pub outcome : batch.IsBatchOutcome sound p.table.id (take 1000 rest) stopping k (Err f)

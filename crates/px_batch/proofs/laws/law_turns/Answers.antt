@@ -2,10 +2,10 @@ use Rattle.px_batch.proofs.Turning.{ends_as, fits-kept, starts, steps_on, waits_
 use Rattle.px_batch.proofs.laws.law_turns.Goals as goal
 
 pub returns-clause-others : goal.returns-clause-others
-returns-clause-others g c table cs s k k' h f = fits-kept table cs s k k' h f
+returns-clause-others g c table cs s k k' h f = fits-kept g.S.Steps.sound table cs s k k' h f
 
 pub returns-clause-starts : goal.returns-clause-starts
-returns-clause-starts g c table cs k f = starts table cs k f
+returns-clause-starts g c table cs k f = starts g.S.Steps.sound table cs k f
 
 pub returns-clause-steps : goal.returns-clause-steps
 returns-clause-steps g c table cs k0 k k' old new h t = steps_on g.S.Steps.sound table cs k0 k k' old new h t

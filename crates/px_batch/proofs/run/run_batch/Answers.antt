@@ -4,7 +4,7 @@ use Rattle.px_batch.proofs.run.run_batch.Goals as goal
 
 pub steps-init : goal.steps-init
 steps-init g c = record {
-  so_far = rw c.new-run.ensures.state (turning.starts c.args.table c.args.changes (g.S.Steps.known c.args.s.now) c.requires.fits);
+  so_far = rw c.new-run.ensures.state (turning.starts g.S.Steps.sound c.args.table c.args.changes (g.S.Steps.known c.args.s.now) c.requires.fits);
   table = c.new-run.ensures.table;
   changes = c.new-run.ensures.changes;
 }

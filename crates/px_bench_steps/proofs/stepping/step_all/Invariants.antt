@@ -5,6 +5,6 @@ use Rattle.px_bench_steps.proofs.stepping.step_all.Given as goal
 abbrev pub invariant-steps : goal.invariant-steps
 invariant-steps g l =
     record {
-      fits : FitsBatch l.run.table l.run.changes l.run.state (g.S.Steps.known l.s);
+      fits : FitsBatch g.S.Steps.sound l.run.table l.run.changes l.run.state (g.S.Steps.known l.s);
       going : IsBatchGoing l.run.state;
     }

@@ -3,4 +3,4 @@ use Rattle.px_commanding.proofs.Counting as counting
 use Rattle.px_commanding.proofs.laws.law_turns.Goals as goal
 
 pub returns : goal.returns
-returns c = record { commits = committing.fits-kept; counts = counting.fits-kept }
+returns g c = record { commits = committing.fits-kept g.S.Steps.sound; counts = counting.fits-kept }
