@@ -1,5 +1,5 @@
 -- How a scan goes on, over plain variables.
-use Rattle.std.proofs.Common.{ℕ, ◌≡◌, Bool, true, false, Option, None, Some, Ok, Err, List, [], ◌∷◌, ◌++◌, length, sym, ◌∙◌, ap, subst}
+use Rattle.std.proofs.Common.{ℕ, ◌≡◌, Bool, true, false, Option, None, Some, Ok, Err, List, [], ◌∷◌, ◌++◌, length, refl, sym, ◌∙◌, ap, subst}
 use Rattle.std.specs.Prelude.{Vec}
 use Rattle.std.specs.declared.alloc.Global.{Global}
 use Rattle.px_trail.specs.declared.entry.Entry.{Entry}
@@ -25,7 +25,6 @@ use Rattle.px_scan.specs.declared.machine.QueryState.{QueryState}
 use Rattle.px_scan.specs.declared.machine.QueryState.TheVariants as state
 use Rattle.px_scan.specs.declared.machine.Rest.{Rest}
 use Rattle.px_scan.specs.declared.machine.Scan.{Scan}
-use Rattle.px_scan.specs.Faults.{IsJoined}
 use Rattle.px_scan.specs.Turns.{GoesOn, IsNext, IsReadingAt, IsScanning, frame, frame_of, given_of}
 use Rattle.px_scan.proofs.Turning.{fewer-doubts, goes-ended, goes-failed, goes-looking}
 
@@ -83,16 +82,7 @@ follows sound k q scn p path rows none h c =
     (λ is_sound. subst (λ (l : List Placed). Gathered (frame_of q k p path) k.seen (up_to None) (given_of l)) (sym none) (gathering.gathered-none (frame_of q k p path) k.seen))
 
 pub joined-on : (sound : Type 0) (k : Known) (q : Query) (scn : Option ℕ) (p : Point) → IsReadingAt k q scn p → q.joins p.found p.stamp ≡ true → GoesOn sound k q scn p (state.Closing p (Err fault.IndexJoin))
-joined-on sound k q scn p h j =
-    let is : IsJoined q k = record {
-      found = p.found;
-      within = h.point.within;
-      is = h.point.found;
-      table = ap (λ t. t.0) h.point.found_table ∙ h.point.table;
-      stamp = p.stamp;
-      joins = j;
-    } in
-    goes-failed sound k q scn p fault.IndexJoin h is tt
+joined-on sound k q scn p h j = record { fits = (h, (j, tt)); going = tt; opened_is = refl; since = λ n le. le }
 
 -- a chunk as it is left
 pub rest-scanning : (sound : Type 0) (k : Known) (q : Query) (scn : Option ℕ) (x : Scan) (c : Chunk) (r : Rest) → r.keys.items ≡ c.found → r.next ≡ c.next → r.at ≡ c.at → IsScanning sound k q scn x c.found c.next c.at → IsScanning sound k q scn x r.keys.items r.next r.at

@@ -1,5 +1,5 @@
 -- The rows that a query by an index looks at are bounded by the doubts that it finds.
-use Rattle.std.proofs.Common.{ℕ, ◌≡◌, ◌≤◌, ◌<◌, ◌+◌, ◌*◌, Option, Result, Vec, List, [], ◌∷◌, refl, ◌∙◌, ap, inr, arith}
+use Rattle.std.proofs.Common.{ℕ, Bool, ◌≡◌, ◌≤◌, ◌<◌, ◌+◌, ◌*◌, Option, Result, Vec, List, [], ◌∷◌, refl, ◌∙◌, ap, inr, arith}
 use Rattle.std.specs.declared.alloc.Global.{Global}
 use Rattle.px_calls.specs.declared.query.Chunk.{Chunk}
 use Rattle.px_calls.specs.declared.query.Doubt.{Doubt}
@@ -8,6 +8,7 @@ use Rattle.px_calls.specs.declared.query.FoundKey.TheVariants.{InDoubt, Sure}
 use Rattle.px_calls.specs.declared.query.FoundRow.{FoundRow}
 use Rattle.px_calls.specs.declared.query.Point.{Point}
 use Rattle.px_calls.specs.Calls.{DidLook}
+use Rattle.px_calls.specs.Doubtful.{AreDoubtful, IndexVersion}
 use Rattle.px_calls.specs.Known.{Known}
 use Rattle.px_scan.specs.declared.answer.Placed.{Placed}
 use Rattle.px_scan.specs.declared.answer.QueryFault.{QueryFault}
@@ -40,23 +41,23 @@ consulting_look new old fewer = omega arith
 -- 2. Steps
 
 -- one that looks at no row, and leaves no more to be looked at
-pub looks_none : (sound : Type 0) (old : QueryState) (k : Known) (m : ℕ) (new : QueryState) (k' : Known) (n : ℕ) → HasFoundDoubts sound old k k' 0 → n ≡ m → to_look new ≤ to_look old → Looks sound old k m new k' n
-looks_none sound old k m new k' n found same le = record { asked = omega arith; doubts = 0; found = found; left = omega arith }
+pub looks_none : (sound : Type 0) (old : QueryState) (k : Known) (m : ℕ) (new : QueryState) (k' : Known) (n : ℕ) (f : Point → IndexVersion → Bool) → HasFoundDoubts sound old k k' f 0 → n ≡ m → to_look new ≤ to_look old → Looks sound old k m new k' n f
+looks_none sound old k m new k' n f found same le = record { asked = omega arith; doubts = 0; found = found; left = omega arith }
 
 -- one that may look at one row, which was to be looked at
-pub looks_one : (sound : Type 0) (old : QueryState) (k : Known) (m : ℕ) (new : QueryState) (k' : Known) (n : ℕ) → HasFoundDoubts sound old k k' 0 → n ≤ m + 1 → asked_by old ≡ 1 → to_look new + 1 ≤ to_look old → Looks sound old k m new k' n
-looks_one sound old k m new k' n found once one le = record { asked = omega arith; doubts = 0; found = found; left = omega arith }
+pub looks_one : (sound : Type 0) (old : QueryState) (k : Known) (m : ℕ) (new : QueryState) (k' : Known) (n : ℕ) (f : Point → IndexVersion → Bool) → HasFoundDoubts sound old k k' f 0 → n ≤ m + 1 → asked_by old ≡ 1 → to_look new + 1 ≤ to_look old → Looks sound old k m new k' n f
+looks_one sound old k m new k' n f found once one le = record { asked = omega arith; doubts = 0; found = found; left = omega arith }
 
 -- a refused repair
-pub looks_refused : (sound : Type 0) (k : Known) (m : ℕ) (k' : Known) (n : ℕ) (x y : Scan) (rest : Rest) (d e : Doubt) → n ≤ m + 1 → Looks sound (state.Fixing x rest d) k m (state.Settling y rest e) k' n
-looks_refused sound k m k' n x y rest d e once = record { asked = omega arith; doubts = 0; found = refl; left = omega arith }
+pub looks_refused : (sound : Type 0) (k : Known) (m : ℕ) (k' : Known) (n : ℕ) (f : Point → IndexVersion → Bool) (x y : Scan) (rest : Rest) (d e : Doubt) → n ≤ m + 1 → Looks sound (state.Fixing x rest d) k m (state.Settling y rest e) k' n f
+looks_refused sound k m k' n f x y rest d e once = record { asked = omega arith; doubts = 0; found = refl; left = omega arith }
 
 -- a look of which these keys are gone through
-pub looks_chunk : (sound : Type 0) (k : Known) (m : ℕ) (k' : Known) (n : ℕ) (x : Scan) (after : Option (List ℕ)) (c : Chunk) (keys : List FoundKey) (new : QueryState)
-    → keys ≡ c.found → DidLook sound k k' x.point x.path after c → n ≡ m → to_look new ≤ 2 * doubts_in keys → Looks sound (state.Looking x after) k m new k' n
-looks_chunk sound k m k' n x after c keys new keys_are did same le =
+pub looks_chunk : (sound : Type 0) (k : Known) (m : ℕ) (k' : Known) (n : ℕ) (f : Point → IndexVersion → Bool) (x : Scan) (after : Option (List ℕ)) (c : Chunk) (keys : List FoundKey) (new : QueryState)
+    → keys ≡ c.found → DidLook sound k k' x.point x.path after c → (sound → AreDoubtful f x.point c.found) → n ≡ m → to_look new ≤ 2 * doubts_in keys → Looks sound (state.Looking x after) k m new k' n f
+looks_chunk sound k m k' n f x after c keys new keys_are did doubtful same le =
     let e : doubts_in keys ≡ doubts_in c.found = ap doubts_in keys_are in
-    record { asked = omega arith; doubts = doubts_in c.found; found = inr (c, did, refl); left = omega arith }
+    record { asked = omega arith; doubts = doubts_in c.found; found = inr (c, did, doubtful, refl); left = omega arith }
 
 -- 3. Steps, one after another
 

@@ -1,27 +1,29 @@
 -- Calls that begin, end, open, close and define nothing, and the refusals that end a query.
 use Rattle.std.proofs.Common.{ℕ, ◌≡◌, ◌≤◌, ◌-◌, ◌+◌, Bool, true, false, Option, None, Some, List, [], ◌∷◌, ◌++◌, length, take, drop, refl, sym, ◌∙◌, ap, subst, arith, inl, inr, length-append}
-use Rattle.std.proofs.lemmas.List.{drop-append-le, take-append-le, take-append-drop, drop-drop}
+use Rattle.std.proofs.lemmas.List.{drop-append-le, take-append-drop, drop-drop}
 use Rattle.px_trail.specs.declared.entry.Act.{Act}
 use Rattle.px_trail.specs.declared.entry.Act.TheVariants as act
 use Rattle.px_trail.specs.declared.entry.Entry.{Entry}
 use Rattle.px_trail.specs.Answers.{IsAmong}
-use Rattle.px_trail.specs.Trail.{Base, acts_by, closing_call}
+use Rattle.px_trail.specs.Trail.{acts_by, closing_call}
 use Rattle.px_calls.specs.declared.fault.StepFault.{StepFault}
 use Rattle.px_calls.specs.declared.fault.StepFault.TheVariants as step
 use Rattle.px_calls.specs.declared.query.Doubt.{Doubt}
 use Rattle.px_calls.specs.declared.query.Fixing.{Fixing}
+use Rattle.px_calls.specs.declared.query.Point.{Point}
 use Rattle.px_calls.specs.declared.query.Fixing.TheVariants as fixing
 use Rattle.px_calls.specs.declared.status.Work.{Work}
 use Rattle.px_calls.specs.declared.status.Work.TheVariants as work
 use Rattle.px_calls.specs.Known.{Adds, HasMade, Known, Ran, Sees, TimePasses, outline}
 use Rattle.px_calls.specs.Causes.{Refuses, fix_cause, read_cause, upkeep_cause}
-use Rattle.px_calls.specs.Calls.{DidFix, DidWork, IsFound}
+use Rattle.px_calls.specs.Calls.{DidFix, DidWork}
 use Rattle.px_calls.proofs.Runs.{acts_by-append, among-append, among-front, closing-grows, ran-adds, ran-made, ran-sees}
 use Rattle.px_calls.proofs.Stays.{ran-since}
+use Rattle.px_gather.specs.Answers.{IsPointOfQuery}
 use Rattle.px_gather.specs.Query.{Query}
 use Rattle.px_scan.specs.declared.answer.QueryFault.{QueryFault}
 use Rattle.px_scan.specs.declared.answer.QueryFault.TheVariants as fault
-use Rattle.px_scan.specs.Faults.{FaultIs, IsJoined, IsScanFault, QueryFaultIs, QueryFaultSince, fault_of, is_busy}
+use Rattle.px_scan.specs.Faults.{FaultAt, FaultIs, IsScanFault, QueryEndSince, QueryFaultIs, QueryFaultSince, fault_of, is_busy}
 use Rattle.px_scan.specs.Turns.{Grown, Quiet}
 
 -- 1. Quiet calls
@@ -136,28 +138,23 @@ later-made k k' a h m =
     let e : acts_by k'.seat k'.seen ≡ acts_by k.seat k.seen ++ acts_by k.seat h.more = ap (λ (n : ℕ). acts_by n k'.seen) h.seat ∙ (ap (acts_by k.seat) h.seen ∙ acts_by-append k.seat k.seen h.more) in
     subst (λ (l : List Act). IsAmong a l) (sym e) (among-front a (acts_by k.seat k.seen) (acts_by k.seat h.more) m)
 
-later-joined : (q : Query) (k k' : Known) → Later k k' → IsJoined q k → IsJoined q k'
-later-joined q k k' h j =
-    let same : take j.found.at (k.seen ++ h.more) ≡ take j.found.at k.seen = take-append-le j.found.at k.seen h.more j.within in
-    let here : take j.found.at k'.seen ≡ take j.found.at k.seen = ap (take j.found.at) h.seen ∙ same in
-    record {
-      found = j.found;
-      within = longer k k' j.found.at h j.within;
-      is = subst (λ (b : Base). IsFound b (take j.found.at k'.seen) j.found) (sym h.base) (subst (λ (l : List Entry). IsFound k.base l j.found) (sym here) j.is);
-      table = j.table;
-      stamp = j.stamp;
-      joins = j.joins;
-    }
-
 pub later-fault : (sound : Type 0) (q : Query) (f : QueryFault) (k k' : Known) → Later k k' → FaultIs sound q f k → FaultIs sound q f k'
 later-fault sound q fault.NoTable k k' h j = j
 later-fault sound q (fault.BelowHorizon n) k k' h j = j
-later-fault sound q fault.IndexJoin k k' h j = later-joined q k k' h j
+later-fault sound q fault.IndexJoin k k' h j = absurd j
 later-fault sound q fault.ReadFault k k' h j = (j.0, later-made k k' (act.Missed j.0) h j.1)
 later-fault sound q fault.WriteFault k k' h j = (j.0, later-made k k' (act.Shut j.0) h j.1)
 later-fault sound q (fault.Damaged file place) k k' h j = (ap (λ (d : ℕ → ℕ → Bool). d file place) h.damaged ∙ j.0, j.1)
 later-fault sound q (fault.Closed call) k k' h j = ap closing_call h.seen ∙ closing-grows k.seen h.more call j
 later-fault sound q fault.Memory k k' h j = tt
+
+pub later-at : (sound : Type 0) (q : Query) (p : Point) (f : QueryFault) (k k' : Known) → Later k k' → FaultAt sound q p f k → FaultAt sound q p f k'
+later-at sound q p fault.IndexJoin k k' h j = j
+later-at sound q p f k k' h j = later-fault sound q f k k' h j
+
+pub fault-at : (sound : Type 0) (q : Query) (p : Point) (f : QueryFault) (k : Known) → FaultIs sound q f k → FaultAt sound q p f k
+fault-at sound q p fault.IndexJoin k j = absurd j
+fault-at sound q p f k j = j
 
 made_on : (m : ℕ) (a : Act) (k k' : Known) → m ≤ length k.seen → Later k k' → IsAmong a (acts_by k.seat (drop m k.seen)) → IsAmong a (acts_by k'.seat (drop m k'.seen))
 made_on m a k k' le g h =
@@ -184,12 +181,12 @@ made-earlier n m fault.ReadFault k le j = (j.0, made_from n m (act.Missed j.0) k
 made-earlier n m fault.WriteFault k le j = (j.0, made_from n m (act.Shut j.0) k le j.1)
 made-earlier n m f k le j = tt
 
-pub fault_in : (sound : Type 0) (q : Query) (scn : Option ℕ) (f : QueryFault) (k : Known) → FaultIs sound q f k → QueryFaultIs sound q scn f k
+fault_in : (sound : Type 0) (q : Query) (scn : Option ℕ) (f : QueryFault) (k : Known) → FaultIs sound q f k → QueryFaultIs sound q scn f k
 fault_in sound q scn fault.NoTable k j = absurd j
 fault_in sound q None (fault.BelowHorizon h) k j = absurd j
 fault_in sound q (Some scn) (fault.BelowHorizon h) k j = absurd j
-fault_in sound q None fault.IndexJoin k j = j
-fault_in sound q (Some scn) fault.IndexJoin k j = j
+fault_in sound q None fault.IndexJoin k j = absurd j
+fault_in sound q (Some scn) fault.IndexJoin k j = absurd j
 fault_in sound q None fault.ReadFault k j = j
 fault_in sound q (Some scn) fault.ReadFault k j = j
 fault_in sound q None fault.WriteFault k j = j
@@ -200,3 +197,18 @@ fault_in sound q None (fault.Closed call) k j = j
 fault_in sound q (Some scn) (fault.Closed call) k j = j
 fault_in sound q None fault.Memory k j = j
 fault_in sound q (Some scn) fault.Memory k j = j
+
+-- the fault with which a query ended at its point
+pub ended-as : (sound : Type 0) (q : Query) (scn : Option ℕ) (p : Point) (f : QueryFault) (k : Known) → IsPointOfQuery k.base k.seen q scn p → FaultAt sound q p f k → QueryFaultIs sound q scn f k
+ended-as sound q None p fault.IndexJoin k h j = record { point = p; from = omega arith; is_point = h; joins = j }
+ended-as sound q (Some scn) p fault.IndexJoin k h j = record { point = p; from = omega arith; is_point = h; joins = j }
+ended-as sound q scn p f k h j = fault_in sound q scn f k j
+
+pub ended-since : (sound : Type 0) (n : ℕ) (q : Query) (scn : Option ℕ) (p : Point) (f : QueryFault) (k : Known) → n ≤ p.found.at → IsPointOfQuery k.base k.seen q scn p → FaultAt sound q p f k → QueryFaultSince n f k → QueryEndSince n q scn f k
+ended-since sound n q scn p fault.IndexJoin k from h j made = record { point = p; from = from; is_point = h; joins = j }
+ended-since sound n q scn p f k from h j made = made
+
+-- of a device's fault the entry alone
+pub device-since : (n : ℕ) (q : Query) (scn : Option ℕ) (f : QueryFault) (k : Known) → QueryEndSince n q scn f k → QueryFaultSince n f k
+device-since n q scn fault.IndexJoin k h = tt
+device-since n q scn f k h = h

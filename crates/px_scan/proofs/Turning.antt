@@ -27,7 +27,7 @@ use Rattle.px_calls.specs.declared.query.FoundKey.TheVariants.{InDoubt}
 use Rattle.px_calls.specs.declared.query.Held.{Held}
 use Rattle.px_calls.specs.declared.query.Path.{Path}
 use Rattle.px_calls.specs.declared.query.Point.{Point}
-use Rattle.px_calls.specs.Known.{Adds, Known, Sees, TimePasses, outline}
+use Rattle.px_calls.specs.Known.{Adds, Known, Ran, Sees, TimePasses, outline}
 use Rattle.px_calls.specs.Causes.{Refuses, open_cause, stamp_at}
 use Rattle.px_calls.specs.Calls.{DidConsult, DidFix, DidLook, DidOpen, IsFound}
 use Rattle.px_values.specs.Limits.{most_key}
@@ -52,9 +52,9 @@ use Rattle.px_scan.specs.declared.machine.QueryState.{QueryState}
 use Rattle.px_scan.specs.declared.machine.QueryState.TheVariants as state
 use Rattle.px_scan.specs.declared.machine.Rest.{Rest}
 use Rattle.px_scan.specs.declared.machine.Scan.{Scan}
-use Rattle.px_scan.specs.Faults.{FaultIs, QueryFaultIs, QueryFaultSince}
-use Rattle.px_scan.specs.Turns.{AfterFix, AfterLook, FitsScan, GoesOn, Grown, IsBound, IsNext, IsQueryNew, IsQueryOutcome, IsQuerySince, IsReadingAt, IsScanning, QueryEdge, QuerySoFar, QueryTurns, Quiet, RanQuery, frame, frame_of, given_of, opened_by_query, opening, point_acts, queried_table}
-use Rattle.px_scan.proofs.Quieting.{Later, fault_in, grown-passes, grown-quiet, later-fault, later-grown, later-ran, longer, made-earlier, made-later, quiet-sees}
+use Rattle.px_scan.specs.Faults.{FaultIs, QueryEndSince, QueryFaultIs, QueryFaultSince}
+use Rattle.px_scan.specs.Turns.{AfterFix, AfterLook, ClosesAs, FitsScan, GoesOn, Grown, IsBound, IsNext, IsQueryGoing, IsQueryNew, IsQueryOutcome, IsQuerySince, IsReadingAt, IsScanning, QueryEdge, QuerySoFar, QueryTurns, Quiet, RanQuery, frame, frame_of, given_of, opened_by_query, opening, point_acts, queried_table}
+use Rattle.px_scan.proofs.Quieting.{Later, ended-as, ended-since, fault-at, grown-passes, grown-quiet, later-at, later-grown, later-ran, longer, made-earlier, made-later, quiet-sees}
 
 -- 1. What time leaves
 
@@ -120,7 +120,7 @@ fits-kept sound q scn (state.Closing p (Ok rows)) k k' h f = let g = grown-passe
 fits-kept sound q scn (state.Closing p (Err e)) k k' h f =
     let g = grown-passes k k' h in
     let l = later-grown k k' g in
-    (grown-reading k k' q scn p g f.0, (later-fault sound q e k k' l f.1.0, made-later p.found.at e k k' f.0.point.within l f.1.1))
+    (grown-reading k k' q scn p g f.0, (later-at sound q p e k k' l f.1.0, made-later p.found.at e k k' f.0.point.within l f.1.1))
 fits-kept sound q scn state.Over k k' h f = tt
 
 -- 2. States that go on from a point
@@ -141,24 +141,25 @@ pub goes-ended : (sound : Type 0) (k : Known) (q : Query) (scn : Option ℕ) (p 
 goes-ended sound k q scn p path rows h c e = record { fits = (h, (path, c, e)); going = tt; opened_is = refl; since = λ n le. le }
 
 pub goes-failed : (sound : Type 0) (k : Known) (q : Query) (scn : Option ℕ) (p : Point) (f : QueryFault) → IsReadingAt k q scn p → FaultIs sound q f k → QueryFaultSince p.found.at f k → GoesOn sound k q scn p (state.Closing p (Err f))
-goes-failed sound k q scn p f h told made = record { fits = (h, (told, made)); going = tt; opened_is = refl; since = λ n le. le }
+goes-failed sound k q scn p f h told made = record { fits = (h, (fault-at sound q p f k told, made)); going = tt; opened_is = refl; since = λ n le. le }
 
 -- a step that went on from a point
-pub steps : (sound : Type 0) (k k' : Known) (q : Query) (scn : Option ℕ) (p : Point) (old new : QueryState) → Quiet k k' → opened_by_query old ≡ opening p → ((n : ℕ) → IsQuerySince n old k → n ≤ p.found.at) → GoesOn sound k' q scn p new → QueryEdge sound old k new k' → QueryTurns sound q scn old k new k' turn.Stepped
-steps sound k k' q scn p old new h was since g edge = record {
+pub steps : (sound : Type 0) (k k' : Known) (q : Query) (scn : Option ℕ) (p : Point) (old new : QueryState) → Quiet k k' → opened_by_query old ≡ opening p → ClosesAs old turn.Stepped → ((n : ℕ) → IsQuerySince n old k → n ≤ p.found.at) → GoesOn sound k' q scn p new → QueryEdge sound old k new k' → QueryTurns sound q scn old k new k' turn.Stepped
+steps sound k k' q scn p old new h was closes since g edge = record {
   acts = h.acts;
   ran = h.ran;
   fits = g.fits;
   told = (g.going, ap (λ (l : List Act). l ++ outline h.acts) was ∙ (ap (λ (l : List Act). act.Opened p.table p.stamp p.scn ∷ l) h.quiet ∙ sym g.opened_is));
   since = λ n s. g.since n (since n s);
   edge = edge;
+  closes = closes;
 }
 
 -- a step that ended the scan with a fault
-pub fails : (sound : Type 0) (k k' : Known) (q : Query) (scn : Option ℕ) (p : Point) (old new : QueryState) (f : QueryFault) → new ≡ state.Closing p (Err f) → IsReadingAt k q scn p → opened_by_query old ≡ opening p → ((n : ℕ) → IsQuerySince n old k → n ≤ p.found.at) → Quiet k k' → FaultIs sound q f k' → QueryFaultSince p.found.at f k' → QueryEdge sound old k (state.Closing p (Err f)) k' → QueryTurns sound q scn old k new k' turn.Stepped
-fails sound k k' q scn p old new f is h was since quiet told made edge =
+pub fails : (sound : Type 0) (k k' : Known) (q : Query) (scn : Option ℕ) (p : Point) (old new : QueryState) (f : QueryFault) → new ≡ state.Closing p (Err f) → IsReadingAt k q scn p → opened_by_query old ≡ opening p → ClosesAs old turn.Stepped → ((n : ℕ) → IsQuerySince n old k → n ≤ p.found.at) → Quiet k k' → FaultIs sound q f k' → QueryFaultSince p.found.at f k' → QueryEdge sound old k (state.Closing p (Err f)) k' → QueryTurns sound q scn old k new k' turn.Stepped
+fails sound k k' q scn p old new f is h was closes since quiet told made edge =
     subst (λ (n : QueryState). QueryTurns sound q scn old k n k' turn.Stepped) (sym is)
-    (steps sound k k' q scn p old (state.Closing p (Err f)) quiet was since (goes-failed sound k' q scn p f (grown-reading k k' q scn p (grown-quiet k k' quiet) h) told made) edge)
+    (steps sound k k' q scn p old (state.Closing p (Err f)) quiet was closes since (goes-failed sound k' q scn p f (grown-reading k k' q scn p (grown-quiet k k' quiet) h) told made) edge)
 
 -- 3. Looks and doubts
 
@@ -215,7 +216,7 @@ consulted sound k k' q scn x y r d d' ho point path h l rows =
 pub consults : (sound : Type 0) (k k' : Known) (q : Query) (scn : Option ℕ) (x y : Scan) (r : Rest) (d d' : Doubt) (ho : Option Held) → y.point ≡ x.point → y.path ≡ x.path → FitsScan sound q scn (state.Consulting x r d) k → DidConsult sound k k' x.point d d' ho → given_of y.rows.items ≡ given_of x.rows.items ++ kept_held q ho
     → QueryTurns sound q scn (state.Consulting x r d) k (state.Fixing y r d') k' turn.Stepped
 consults sound k k' q scn x y r d d' ho point path h l rows =
-    steps sound k k' q scn y.point (state.Consulting x r d) (state.Fixing y r d') (quiet-sees k k' l.finds.sees) (ap opening (sym point)) (λ n le. subst (λ (p : Point). n ≤ p.found.at) (sym point) le)
+    steps sound k k' q scn y.point (state.Consulting x r d) (state.Fixing y r d') (quiet-sees k k' l.finds.sees) (ap opening (sym point)) tt (λ n le. subst (λ (p : Point). n ≤ p.found.at) (sym point) le)
     (goes-fixing sound k' q scn y r d' (consulted sound k k' q scn x y r d d' ho point path h l rows) l.verdict)
     (ho, l)
 
@@ -304,9 +305,10 @@ opens sound k k' q scn t rows p new number d g =
       told = (g.going, ap (λ (u : TableId). act.Opened u p.stamp p.scn ∷ []) (sym d.table) ∙ sym g.opened_is);
       since = λ n h. g.since n (let l = longer k k' n (later-ran k k' _ ran) h in let a = d.found.at in omega arith);
       edge = tt;
+      closes = tt;
     }
 
-pub unopened : (sound : Type 0) (k k' : Known) (q : Query) (scn : Option ℕ) (rows : Vec Placed Global) (f : QueryFault) → QueryFaultIs sound q scn f k' → Sees k k' → ((n : ℕ) → QueryFaultSince n f k') → QueryTurns sound q scn (state.Opening rows) k state.Over k' (turn.Over (Err f))
+pub unopened : (sound : Type 0) (k k' : Known) (q : Query) (scn : Option ℕ) (rows : Vec Placed Global) (f : QueryFault) → QueryFaultIs sound q scn f k' → Sees k k' → ((n : ℕ) → QueryEndSince n q scn f k') → QueryTurns sound q scn (state.Opening rows) k state.Over k' (turn.Over (Err f))
 unopened sound k k' q scn rows f told h made = record {
   acts = [];
   ran = ran-sees k k' h;
@@ -314,6 +316,7 @@ unopened sound k k' q scn rows f told h made = record {
   told = (refl, (told, inl refl));
   since = λ n s. made n;
   edge = tt;
+  closes = tt;
 }
 
 pub awaits : (sound : Type 0) (k k' : Known) (q : Query) (scn : Option ℕ) (t : TableId) (rows : Vec Placed Global) (stamp : ℕ) → t.0 ≡ q.table → FitsScan sound q scn (state.Opening rows) k → Refuses (open_cause t.0 scn) k k' (step.NotYet stamp) → QueryTurns sound q scn (state.Opening rows) k (state.Opening rows) k' (turn.Waiting stamp)
@@ -328,6 +331,7 @@ awaits sound k k' q (Some scn) t rows stamp number f h =
       told = (tt, refl, cause.2);
       since = λ n le. longer k k' n (later-grown k k' (grown-passes k k' s.passes)) le;
       edge = tt;
+      closes = tt;
     }
 
 pub below-horizon : (sound : Type 0) (k k' : Known) (q : Query) (t : TableId) (h : ℕ) (scn : Option ℕ) → t.0 ≡ q.table → Refuses (open_cause t.0 scn) k k' (step.BelowHorizon h) → QueryFaultIs sound q scn (fault.BelowHorizon h) k' × Sees k k'
@@ -387,6 +391,7 @@ closes-ok sound k k' q scn p rows a h adds same first last =
       );
       since = λ n s. (omega arith);
       edge = tt;
+      closes = tt;
     }
 
 pub closes-err : (sound : Type 0) (k k' : Known) (q : Query) (scn : Option ℕ) (p : Point) (f : QueryFault) → FitsScan sound q scn (state.Closing p (Err f)) k → Adds k k' (act.Released p.table p.stamp) → QueryTurns sound q scn (state.Closing p (Err f)) k state.Over k' (turn.Over (Err f))
@@ -394,16 +399,19 @@ closes-err sound k k' q scn p f h adds =
     let ran = ran-adds k k' (act.Released p.table p.stamp) adds in
     let l = later-ran k k' _ ran in
     let number : p.table ≡ queried_table q = ap (λ (n : ℕ). record { 0 = n }) h.0.point.table in
+    let point : IsPointOfQuery k'.base k'.seen q scn p = later-point k k' q scn p l h.0.point in
+    let at = later-at sound q p f k k' l h.1.0 in
     record {
       acts = act.Released p.table p.stamp ∷ [];
       ran = ran;
       fits = tt;
       told = (
         refl,
-        (fault_in sound q scn f k' (later-fault sound q f k k' l h.1.0), inr (p.stamp, p.scn, ap (λ (t : TableId). act.Opened t p.stamp p.scn ∷ act.Released t p.stamp ∷ []) number)),
+        (ended-as sound q scn p f k' point at, inr (p.stamp, p.scn, ap (λ (t : TableId). act.Opened t p.stamp p.scn ∷ act.Released t p.stamp ∷ []) number)),
       );
-      since = λ n s. made-earlier n p.found.at f k' s (made-later p.found.at f k k' h.0.point.within l h.1.1);
+      since = λ n s. ended-since sound n q scn p f k' s point at (made-earlier n p.found.at f k' s (made-later p.found.at f k k' h.0.point.within l h.1.1));
       edge = tt;
+      closes = refl;
     }
 
 -- 6. A whole query
@@ -420,25 +428,22 @@ starts sound q scn state.Over k h b c = absurd h
 joined : (old : QueryState) (xs ys : List Act) → outline xs ≡ opened_by_query old → outline (xs ++ ys) ≡ opened_by_query old ++ outline ys
 joined old xs ys h = outline-append xs ys ∙ ap (λ (l : List Act). l ++ outline ys) h
 
-pub steps_on : (sound : Type 0) (q : Query) (scn : Option ℕ) (k0 k k' : Known) (old new : QueryState) → QuerySoFar sound q scn k0 k old → QueryTurns sound q scn old k new k' turn.Stepped → QuerySoFar sound q scn k0 k' new
-steps_on sound q scn k0 k k' old new h t = record {
-  acts = h.acts ++ t.acts;
-  ran = ran-then k0 k k' h.acts t.acts h.ran t.ran;
-  so_far = joined old h.acts t.acts h.so_far ∙ t.told.1;
-  fits = t.fits;
-  going = t.told.0;
-  since = t.since (length k0.seen) h.since;
+-- behind a step that goes on
+pub goes_further : (sound : Type 0) (q : Query) (scn : Option ℕ) (k0 k k' : Known) (old new : QueryState) (acts : List Act) → QuerySoFar sound q scn k0 k old → Ran k k' acts → FitsScan sound q scn new k' → IsQueryGoing new → opened_by_query old ++ outline acts ≡ opened_by_query new → IsQuerySince (length k0.seen) new k' → QuerySoFar sound q scn k0 k' new
+goes_further sound q scn k0 k k' old new acts h ran fits going own since = record {
+  acts = h.acts ++ acts;
+  ran = ran-then k0 k k' h.acts acts h.ran ran;
+  so_far = joined old h.acts acts h.so_far ∙ own;
+  fits = fits;
+  going = going;
+  since = since;
 }
 
+pub steps_on : (sound : Type 0) (q : Query) (scn : Option ℕ) (k0 k k' : Known) (old new : QueryState) → QuerySoFar sound q scn k0 k old → QueryTurns sound q scn old k new k' turn.Stepped → QuerySoFar sound q scn k0 k' new
+steps_on sound q scn k0 k k' old new h t = goes_further sound q scn k0 k k' old new t.acts h t.ran t.fits t.told.0 t.told.1 (t.since (length k0.seen) h.since)
+
 pub waits_on : (sound : Type 0) (q : Query) (scn : Option ℕ) (k0 k k' : Known) (old new : QueryState) (stamp : ℕ) → QuerySoFar sound q scn k0 k old → QueryTurns sound q scn old k new k' (turn.Waiting stamp) → QuerySoFar sound q scn k0 k' new
-waits_on sound q scn k0 k k' old new stamp h t = record {
-  acts = h.acts ++ t.acts;
-  ran = ran-then k0 k k' h.acts t.acts h.ran t.ran;
-  so_far = joined old h.acts t.acts h.so_far ∙ t.told.1;
-  fits = t.fits;
-  going = t.told.0;
-  since = t.since (length k0.seen) h.since;
-}
+waits_on sound q scn k0 k k' old new stamp h t = goes_further sound q scn k0 k k' old new t.acts h t.ran t.fits t.told.0 t.told.1 (t.since (length k0.seen) h.since)
 
 pub ends_as : (sound : Type 0) (q : Query) (scn : Option ℕ) (k0 k k' : Known) (old new : QueryState) (r : Result Answer QueryFault) → QuerySoFar sound q scn k0 k old → QueryTurns sound q scn old k new k' (turn.Over r) → RanQuery sound q scn k0 k' r
 ends_as sound q scn k0 k k' old new (Ok a) h t = record {

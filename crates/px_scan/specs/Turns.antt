@@ -37,7 +37,7 @@ use Rattle.px_scan.specs.declared.keys.Stop.TheVariants as stop
 use Rattle.px_scan.specs.declared.machine.QueryState.{QueryState}
 use Rattle.px_scan.specs.declared.machine.QueryState.TheVariants as state
 use Rattle.px_scan.specs.declared.machine.Scan.{Scan}
-use Rattle.px_scan.specs.Faults.{FaultIs, QueryFaultIs, QueryFaultSince}
+use Rattle.px_scan.specs.Faults.{FaultAt, QueryEndSince, QueryFaultIs, QueryFaultSince}
 
 -- 1. Time
 
@@ -87,7 +87,7 @@ pub record IsScanning (sound : Type 0) (k : Known) (q : Query) (scn : Option ℕ
 -- how a scan ended, whose point is still to be closed
 abbrev pub HasEnded : Type 0 → Known → Query → Point → Result (Vec Placed Global) QueryFault → Type 0
 HasEnded sound k q p (Ok rows) = (path : Path) × IsPathFor q p path × (sound → Ended (frame_of q k p path) k.seen (given_of rows.items))
-HasEnded sound k q p (Err f) = FaultIs sound q f k × QueryFaultSince p.found.at f k
+HasEnded sound k q p (Err f) = FaultAt sound q p f k × QueryFaultSince p.found.at f k
 
 -- The state is as the trail tells, and what was gathered is right if what was opened is sound. Others' entries keep this
 abbrev pub FitsScan : Type 0 → Query → Option ℕ → QueryState → Known → Type 0
@@ -169,11 +169,11 @@ Told sound q scn own old new k turn.Stepped = IsQueryGoing new × (own ≡ opene
 Told sound q scn own old new k (turn.Waiting stamp) = IsQueryGoing new × (own ≡ opened_by_query new) × IsAwaitedByQuery q scn old k stamp
 Told sound q scn own old new k (turn.Over r) = (new ≡ state.Over) × IsQueryOutcome sound q scn own k r
 
-abbrev pub IsQuerySinceThen : ℕ → QueryState → Known → QueryTurn → Type 0
-IsQuerySinceThen n new k turn.Stepped = IsQuerySince n new k
-IsQuerySinceThen n new k (turn.Waiting stamp) = IsQuerySince n new k
-IsQuerySinceThen n new k (turn.Over (Ok a)) = n ≤ a.first
-IsQuerySinceThen n new k (turn.Over (Err f)) = QueryFaultSince n f k
+abbrev pub IsQuerySinceThen : ℕ → Query → Option ℕ → QueryState → Known → QueryTurn → Type 0
+IsQuerySinceThen n q scn new k turn.Stepped = IsQuerySince n new k
+IsQuerySinceThen n q scn new k (turn.Waiting stamp) = IsQuerySince n new k
+IsQuerySinceThen n q scn new k (turn.Over (Ok a)) = n ≤ a.first
+IsQuerySinceThen n q scn new k (turn.Over (Err f)) = QueryEndSince n q scn f k
 
 -- the states that follow where the keys of a doubt or a look are gone through
 abbrev pub IsNext : QueryState → Type 0
@@ -211,14 +211,20 @@ QueryEdge sound (state.Fixing x rest d) k new k' = AfterFix d k new k'
 QueryEdge sound (state.Settling x rest d) k new k' = AfterWork d new
 QueryEdge sound s k new k' = Unit {0}
 
+-- a scan that ended with a fault comes to that fault and to nothing else
+abbrev pub ClosesAs : QueryState → QueryTurn → Type 0
+ClosesAs (state.Closing p (Err f)) t = t ≡ turn.Over (Err f)
+ClosesAs s t = Unit {0}
+
 -- one step of a query
 pub record QueryTurns (sound : Type 0) (q : Query) (scn : Option ℕ) (old : QueryState) (k : Known) (new : QueryState) (k' : Known) (t : QueryTurn) : Type 0 where
   pub acts : List Act
   pub ran : Ran k k' acts
   pub fits : FitsScan sound q scn new k'
   pub told : Told sound q scn (opened_by_query old ++ outline acts) old new k' t
-  pub since : (n : ℕ) → IsQuerySince n old k → IsQuerySinceThen n new k' t
+  pub since : (n : ℕ) → IsQuerySince n old k → IsQuerySinceThen n q scn new k' t
   pub edge : QueryEdge sound old k new k'
+  pub closes : ClosesAs old t
 
 -- a state that goes on from a point
 pub record GoesOn (sound : Type 0) (k : Known) (q : Query) (scn : Option ℕ) (p : Point) (new : QueryState) : Type 0 where
@@ -246,7 +252,7 @@ pub record RanQuery (sound : Type 0) (q : Query) (scn : Option ℕ) (k k' : Know
   pub acts : List Act
   pub ran : Ran k k' acts
   pub outcome : IsQueryOutcome sound q scn (outline acts) k' r
-  pub since : IsQuerySinceThen (length k.seen) state.Over k' (turn.Over r)
+  pub since : IsQuerySinceThen (length k.seen) q scn state.Over k' (turn.Over r)
 
 -- a query on its way: what the seat did so far is to have opened what the run holds
 pub record QuerySoFar (sound : Type 0) (q : Query) (scn : Option ℕ) (k k' : Known) (s : QueryState) : Type 0 where

@@ -149,7 +149,7 @@ fn open<Q: Asks, S: Steps>(
     requires { FitsScan S.sound (Q.asked query.now) scn (QueryState.Opening rows) (S.known s.old) }
     ensures turns { QueryTurns S.sound (Q.asked query.now) scn (QueryState.Opening rows) (S.known s.old) result.0 (S.known s.new) result.1 }
     ensures spends { Spends S.sound (QueryState.Opening rows) (S.known s.old) result.0 (S.known s.new) result.1 }
-    ensures looks { (S.known s.old).alone ≡ true → Looks S.sound (QueryState.Opening rows) (S.known s.old) (S.looked s.old) result.0 (S.known s.new) (S.looked s.new) }
+    ensures looks { (S.known s.old).alone ≡ true → Looks S.sound (QueryState.Opening rows) (S.known s.old) (S.looked s.old) result.0 (S.known s.new) (S.looked s.new) (S.doubtful s.new) }
     ensures doubts { (S.known s.old).alone ≡ true → S.sound → KeepsDoubts (QueryState.Opening rows) (S.known s.old) (S.doubtful s.old) result.0 (S.known s.new) (S.doubtful s.new) }
     ensures one_call { S.one_call s.old s.new }
 {
@@ -200,7 +200,7 @@ fn look<Q: Asks, S: Steps>(
     requires { FitsScan S.sound (Q.asked query.now) scn (QueryState.Looking x after) (S.known s.old) }
     ensures turns { QueryTurns S.sound (Q.asked query.now) scn (QueryState.Looking x after) (S.known s.old) result.0 (S.known s.new) result.1 }
     ensures spends { Spends S.sound (QueryState.Looking x after) (S.known s.old) result.0 (S.known s.new) result.1 }
-    ensures looks { (S.known s.old).alone ≡ true → IsByIndex (QueryState.Looking x after) → Looks S.sound (QueryState.Looking x after) (S.known s.old) (S.looked s.old) result.0 (S.known s.new) (S.looked s.new) }
+    ensures looks { (S.known s.old).alone ≡ true → IsByIndex (QueryState.Looking x after) → Looks S.sound (QueryState.Looking x after) (S.known s.old) (S.looked s.old) result.0 (S.known s.new) (S.looked s.new) (S.doubtful s.new) }
     ensures doubts { (S.known s.old).alone ≡ true → S.sound → KeepsDoubts (QueryState.Looking x after) (S.known s.old) (S.doubtful s.old) result.0 (S.known s.new) (S.doubtful s.new) }
     ensures one_call { S.one_call s.old s.new }
 {
@@ -222,7 +222,7 @@ fn consult<Q: Asks, S: Steps>(
     requires { FitsScan S.sound (Q.asked query.now) scn (QueryState.Consulting x rest doubt) (S.known s.old) }
     ensures turns { QueryTurns S.sound (Q.asked query.now) scn (QueryState.Consulting x rest doubt) (S.known s.old) result.0 (S.known s.new) result.1 }
     ensures spends { Spends S.sound (QueryState.Consulting x rest doubt) (S.known s.old) result.0 (S.known s.new) result.1 }
-    ensures looks { (S.known s.old).alone ≡ true → Looks S.sound (QueryState.Consulting x rest doubt) (S.known s.old) (S.looked s.old) result.0 (S.known s.new) (S.looked s.new) }
+    ensures looks { (S.known s.old).alone ≡ true → Looks S.sound (QueryState.Consulting x rest doubt) (S.known s.old) (S.looked s.old) result.0 (S.known s.new) (S.looked s.new) (S.doubtful s.new) }
     ensures doubts { (S.known s.old).alone ≡ true → S.sound → KeepsDoubts (QueryState.Consulting x rest doubt) (S.known s.old) (S.doubtful s.old) result.0 (S.known s.new) (S.doubtful s.new) }
     ensures one_call { S.one_call s.old s.new }
 {
@@ -247,7 +247,7 @@ fn fix<Q: Asks, S: Steps>(
     requires { FitsScan S.sound (Q.asked query.now) scn (QueryState.Fixing x rest doubt) (S.known s.old) }
     ensures turns { QueryTurns S.sound (Q.asked query.now) scn (QueryState.Fixing x rest doubt) (S.known s.old) result.0 (S.known s.new) result.1 }
     ensures spends { Spends S.sound (QueryState.Fixing x rest doubt) (S.known s.old) result.0 (S.known s.new) result.1 }
-    ensures looks { (S.known s.old).alone ≡ true → Looks S.sound (QueryState.Fixing x rest doubt) (S.known s.old) (S.looked s.old) result.0 (S.known s.new) (S.looked s.new) }
+    ensures looks { (S.known s.old).alone ≡ true → Looks S.sound (QueryState.Fixing x rest doubt) (S.known s.old) (S.looked s.old) result.0 (S.known s.new) (S.looked s.new) (S.doubtful s.new) }
     ensures doubts { (S.known s.old).alone ≡ true → S.sound → KeepsDoubts (QueryState.Fixing x rest doubt) (S.known s.old) (S.doubtful s.old) result.0 (S.known s.new) (S.doubtful s.new) }
     ensures one_call { S.one_call s.old s.new }
 {
@@ -274,7 +274,7 @@ fn settle<Q: Asks, S: Steps>(
     requires { FitsScan S.sound (Q.asked query.now) scn (QueryState.Settling x rest doubt) (S.known s.old) }
     ensures turns { QueryTurns S.sound (Q.asked query.now) scn (QueryState.Settling x rest doubt) (S.known s.old) result.0 (S.known s.new) result.1 }
     ensures spends { Spends S.sound (QueryState.Settling x rest doubt) (S.known s.old) result.0 (S.known s.new) result.1 }
-    ensures looks { (S.known s.old).alone ≡ true → Looks S.sound (QueryState.Settling x rest doubt) (S.known s.old) (S.looked s.old) result.0 (S.known s.new) (S.looked s.new) }
+    ensures looks { (S.known s.old).alone ≡ true → Looks S.sound (QueryState.Settling x rest doubt) (S.known s.old) (S.looked s.old) result.0 (S.known s.new) (S.looked s.new) (S.doubtful s.new) }
     ensures doubts { (S.known s.old).alone ≡ true → S.sound → KeepsDoubts (QueryState.Settling x rest doubt) (S.known s.old) (S.doubtful s.old) result.0 (S.known s.new) (S.doubtful s.new) }
     ensures one_call { S.one_call s.old s.new }
 {
@@ -296,7 +296,7 @@ fn close<Q: Asks, S: Steps>(
     requires { FitsScan S.sound (Q.asked query.now) scn (QueryState.Closing point end) (S.known s.old) }
     ensures turns { QueryTurns S.sound (Q.asked query.now) scn (QueryState.Closing point end) (S.known s.old) result.0 (S.known s.new) result.1 }
     ensures spends { Spends S.sound (QueryState.Closing point end) (S.known s.old) result.0 (S.known s.new) result.1 }
-    ensures looks { (S.known s.old).alone ≡ true → Looks S.sound (QueryState.Closing point end) (S.known s.old) (S.looked s.old) result.0 (S.known s.new) (S.looked s.new) }
+    ensures looks { (S.known s.old).alone ≡ true → Looks S.sound (QueryState.Closing point end) (S.known s.old) (S.looked s.old) result.0 (S.known s.new) (S.looked s.new) (S.doubtful s.new) }
     ensures doubts { (S.known s.old).alone ≡ true → S.sound → KeepsDoubts (QueryState.Closing point end) (S.known s.old) (S.doubtful s.old) result.0 (S.known s.new) (S.doubtful s.new) }
     ensures one_call { S.one_call s.old s.new }
 {
@@ -324,7 +324,7 @@ pub(crate) fn advance<Q: Asks, S: Steps>(
     requires going { IsQueryGoing state }
     ensures turns { QueryTurns S.sound (Q.asked query.now) scn state (S.known s.old) result.0 (S.known s.new) result.1 }
     ensures spends { Spends S.sound state (S.known s.old) result.0 (S.known s.new) result.1 }
-    ensures looks { (S.known s.old).alone ≡ true → IsByIndex state → Looks S.sound state (S.known s.old) (S.looked s.old) result.0 (S.known s.new) (S.looked s.new) }
+    ensures looks { (S.known s.old).alone ≡ true → IsByIndex state → Looks S.sound state (S.known s.old) (S.looked s.old) result.0 (S.known s.new) (S.looked s.new) (S.doubtful s.new) }
     ensures doubts { (S.known s.old).alone ≡ true → S.sound → KeepsDoubts state (S.known s.old) (S.doubtful s.old) result.0 (S.known s.new) (S.doubtful s.new) }
     ensures one_call { S.one_call s.old s.new }
 {

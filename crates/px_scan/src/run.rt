@@ -46,7 +46,7 @@ impl<Q: Asks> QueryRun<Q> {
         ensures scn { self.new.scn ≡ self.old.scn }
         ensures turns { QueryTurns S.sound (Q.asked self.old.query) self.old.scn self.old.state (S.known s.old) self.new.state (S.known s.new) result }
         ensures spends { Spends S.sound self.old.state (S.known s.old) self.new.state (S.known s.new) result }
-        ensures looks { (S.known s.old).alone ≡ true → IsByIndex self.old.state → Looks S.sound self.old.state (S.known s.old) (S.looked s.old) self.new.state (S.known s.new) (S.looked s.new) }
+        ensures looks { (S.known s.old).alone ≡ true → IsByIndex self.old.state → Looks S.sound self.old.state (S.known s.old) (S.looked s.old) self.new.state (S.known s.new) (S.looked s.new) (S.doubtful s.new) }
         ensures doubts { (S.known s.old).alone ≡ true → S.sound → KeepsDoubts self.old.state (S.known s.old) (S.doubtful s.old) self.new.state (S.known s.new) (S.doubtful s.new) }
         ensures one_call { S.one_call s.old s.new }
     {
@@ -91,7 +91,7 @@ pub fn run_query<R: Wait, Q: Asks + Drop, S: Steps>(
     requires bound { IsBound (S.known s.old) (Q.asked query) }
     requires scn { IsScn scn }
     ensures ran { RanQuery S.sound (Q.asked query) scn (S.known s.old) (S.known s.new) result }
-    ensures course { IsCourse S.sound (Q.asked query) scn (S.known s.old) (S.looked s.old) (S.known s.new) (S.looked s.new) result }
+    ensures course { IsCourse ⟦<S as Steps>⟧ (Q.asked query) scn s.old s.new result }
 {
     let mut run = QueryRun::new(alloc, query, scn);
     'steps: for _ in rt.forever() {

@@ -6,7 +6,7 @@ use Rattle.px_gather.specs.Query.{Query}
 use Rattle.px_planned.specs.Queries.{query_of}
 use Rattle.px_planned.specs.declared.planned.Planned.{Planned}
 use Rattle.px_planned.proofs.Chosen.{taken_if}
-use Rattle.px_scan.specs.Faults.{QueryFaultIs, QueryFaultSince}
+use Rattle.px_scan.specs.Faults.{QueryEndSince, QueryFaultIs}
 use Rattle.px_scan.specs.Turns.{IsQueryOutcome, IsQuerySinceThen, QuerySoFar, QueryTurns, opened_by_query}
 use Rattle.px_scan.specs.declared.answer.Answer.{Answer}
 use Rattle.px_scan.specs.declared.answer.QueryFault.{QueryFault}
@@ -14,7 +14,7 @@ use Rattle.px_scan.specs.declared.answer.QueryFault.TheVariants as fault
 use Rattle.px_scan.specs.declared.answer.QueryTurn.TheVariants as scan
 use Rattle.px_scan.specs.declared.machine.QueryState.{QueryState}
 use Rattle.px_calls.proofs.Runs.{outline-append, ran-then}
-use Rattle.px_scan.proofs.Turning.{steps_on, waits_on}
+use Rattle.px_scan.proofs.Turning.{goes_further}
 use Rattle.px_answers.proofs.Selecting.{select-is}
 use Rattle.px_select.specs.declared.run.SelectTurn.TheVariants as turn
 use Rattle.px_select.specs.declared.run.Selected.{Selected}
@@ -47,11 +47,11 @@ end_is sound p scn own k (Ok x) (Err f) e h =
 end_is sound p scn own k (Err f) (Ok s) e h = absurd e
 end_is sound p scn own k (Err f) (Err g) e h = subst (λ (w : QueryFault). IsSelectOutcome sound p scn own k (Err w)) (sym e) h
 
-since_end : (n : ℕ) (p : Planned) (new : QueryState) (k : Known) (end : Result Answer QueryFault) (r : Result Selected QueryFault) → IsEnd p.asked end r → IsQuerySinceThen n new k (scan.Over end) → IsSelectSinceThen n new k (turn.Over r)
-since_end n p new k (Ok x) (Ok s) e h = subst (λ (w : Selected). n ≤ w.first) (sym e) h
-since_end n p new k (Ok x) (Err f) e h = subst (λ (w : QueryFault). QueryFaultSince n w k) (sym e) tt
-since_end n p new k (Err f) (Ok s) e h = absurd e
-since_end n p new k (Err f) (Err g) e h = subst (λ (w : QueryFault). QueryFaultSince n w k) (sym e) h
+since_end : (n : ℕ) (p : Planned) (scn : Option ℕ) (new : QueryState) (k : Known) (end : Result Answer QueryFault) (r : Result Selected QueryFault) → IsEnd p.asked end r → IsQuerySinceThen n (query_of p) scn new k (scan.Over end) → IsSelectSinceThen n p scn new k (turn.Over r)
+since_end n p scn new k (Ok x) (Ok s) e h = subst (λ (w : Selected). n ≤ w.first) (sym e) h
+since_end n p scn new k (Ok x) (Err f) e h = subst (λ (w : QueryFault). QueryEndSince n (query_of p) scn w k) (sym e) tt
+since_end n p scn new k (Err f) (Ok s) e h = absurd e
+since_end n p scn new k (Err f) (Err g) e h = subst (λ (w : QueryFault). QueryEndSince n (query_of p) scn w k) (sym e) h
 
 pub over-is : (sound : Type 0) (p : Planned) (scn : Option ℕ) (old : QueryState) (k : Known) (new : QueryState) (k' : Known) (end : Result Answer QueryFault) (r : Result Selected QueryFault)
     → IsEnd p.asked end r → QueryTurns sound (query_of p) scn old k new k' (scan.Over end) → SelectTurns sound p scn old k new k' (turn.Over r)
@@ -60,17 +60,17 @@ over-is sound p scn old k new k' end r e t = record {
   ran = t.ran;
   fits = t.fits;
   told = (t.told.0, end_is sound p scn (opened_by_query old ++ outline t.acts) k' end r e t.told.1);
-  since = λ n from. since_end n p new k' end r e (t.since n from);
+  since = λ n from. since_end n p scn new k' end r e (t.since n from);
   edge = t.edge;
 }
 
 -- 2. On the way
 
 pub steps-on : (sound : Type 0) (p : Planned) (scn : Option ℕ) (k0 k k' : Known) (old new : QueryState) → QuerySoFar sound (query_of p) scn k0 k old → SelectTurns sound p scn old k new k' turn.Stepped → QuerySoFar sound (query_of p) scn k0 k' new
-steps-on sound p scn k0 k k' old new h t = steps_on sound (query_of p) scn k0 k k' old new h (record { acts = t.acts; ran = t.ran; fits = t.fits; told = t.told; since = t.since; edge = t.edge })
+steps-on sound p scn k0 k k' old new h t = goes_further sound (query_of p) scn k0 k k' old new t.acts h t.ran t.fits t.told.0 t.told.1 (t.since (length k0.seen) h.since)
 
 pub waits-on : (sound : Type 0) (p : Planned) (scn : Option ℕ) (k0 k k' : Known) (old new : QueryState) (stamp : ℕ) → QuerySoFar sound (query_of p) scn k0 k old → SelectTurns sound p scn old k new k' (turn.Waiting stamp) → QuerySoFar sound (query_of p) scn k0 k' new
-waits-on sound p scn k0 k k' old new stamp h t = waits_on sound (query_of p) scn k0 k k' old new stamp h (record { acts = t.acts; ran = t.ran; fits = t.fits; told = t.told; since = t.since; edge = t.edge })
+waits-on sound p scn k0 k k' old new stamp h t = goes_further sound (query_of p) scn k0 k k' old new t.acts h t.ran t.fits t.told.0 t.told.1 (t.since (length k0.seen) h.since)
 
 joined : (old : QueryState) (xs ys : List Act) → outline xs ≡ opened_by_query old → outline (xs ++ ys) ≡ opened_by_query old ++ outline ys
 joined old xs ys e = outline-append xs ys ∙ ap (λ (l : List Act). l ++ outline ys) e

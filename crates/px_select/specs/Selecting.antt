@@ -9,7 +9,7 @@ use Rattle.px_gather.specs.Query.{IsPathFor}
 use Rattle.px_plan.specs.declared.plan.Asked.{Asked}
 use Rattle.px_planned.specs.Queries.{IsPathTaken, query_of}
 use Rattle.px_planned.specs.declared.planned.Planned.{Planned}
-use Rattle.px_scan.specs.Faults.{QueryFaultIs, QueryFaultSince}
+use Rattle.px_scan.specs.Faults.{QueryEndSince, QueryFaultIs}
 use Rattle.px_scan.specs.Turns.{FitsScan, IsAwaitedByQuery, IsQueryGoing, IsQuerySince, OpensAndCloses, QueryEdge, opened_by_query, point_acts}
 use Rattle.px_scan.specs.declared.answer.Answer.{Answer}
 use Rattle.px_scan.specs.declared.answer.QueryFault.{QueryFault}
@@ -56,11 +56,11 @@ Told sound p scn own old new k turn.Stepped = IsQueryGoing new × (own ≡ opene
 Told sound p scn own old new k (turn.Waiting stamp) = IsQueryGoing new × (own ≡ opened_by_query new) × IsAwaitedByQuery (query_of p) scn old k stamp
 Told sound p scn own old new k (turn.Over r) = (new ≡ state.Over) × IsSelectOutcome sound p scn own k r
 
-abbrev pub IsSelectSinceThen : ℕ → QueryState → Known → SelectTurn → Type 0
-IsSelectSinceThen n new k turn.Stepped = IsQuerySince n new k
-IsSelectSinceThen n new k (turn.Waiting stamp) = IsQuerySince n new k
-IsSelectSinceThen n new k (turn.Over (Ok a)) = n ≤ a.first
-IsSelectSinceThen n new k (turn.Over (Err f)) = QueryFaultSince n f k
+abbrev pub IsSelectSinceThen : ℕ → Planned → Option ℕ → QueryState → Known → SelectTurn → Type 0
+IsSelectSinceThen n p scn new k turn.Stepped = IsQuerySince n new k
+IsSelectSinceThen n p scn new k (turn.Waiting stamp) = IsQuerySince n new k
+IsSelectSinceThen n p scn new k (turn.Over (Ok a)) = n ≤ a.first
+IsSelectSinceThen n p scn new k (turn.Over (Err f)) = QueryEndSince n (query_of p) scn f k
 
 -- one step of a SELECT: what each call does is px_scan's
 pub record SelectTurns (sound : Type 0) (p : Planned) (scn : Option ℕ) (old : QueryState) (k : Known) (new : QueryState) (k' : Known) (t : SelectTurn) : Type 0 where
@@ -68,7 +68,7 @@ pub record SelectTurns (sound : Type 0) (p : Planned) (scn : Option ℕ) (old : 
   pub ran : Ran k k' acts
   pub fits : FitsScan sound (query_of p) scn new k'
   pub told : Told sound p scn (opened_by_query old ++ outline acts) old new k' t
-  pub since : (n : ℕ) → IsQuerySince n old k → IsSelectSinceThen n new k' t
+  pub since : (n : ℕ) → IsQuerySince n old k → IsSelectSinceThen n p scn new k' t
   pub edge : QueryEdge sound old k new k'
 
 -- what a step of a SELECT comes to, where that of its query comes to this
@@ -84,4 +84,4 @@ pub record RanSelect (sound : Type 0) (p : Planned) (scn : Option ℕ) (k k' : K
   pub acts : List Act
   pub ran : Ran k k' acts
   pub outcome : IsSelectOutcome sound p scn (outline acts) k' r
-  pub since : IsSelectSinceThen (length k.seen) state.Over k' (turn.Over r)
+  pub since : IsSelectSinceThen (length k.seen) p scn state.Over k' (turn.Over r)

@@ -84,7 +84,7 @@ impl SelectRun {
         ensures scn { self.new.scan.scn ≡ self.old.scan.scn }
         ensures turns { SelectTurns S.sound self.old.scan.query self.old.scan.scn self.old.scan.state (S.known s.old) self.new.scan.state (S.known s.new) result }
         ensures scans { (t : Turn) × scan.QueryTurns S.sound (query_of self.old.scan.query) self.old.scan.scn self.old.scan.state (S.known s.old) self.new.scan.state (S.known s.new) t × IsTurnOf self.old.scan.query.asked t result }
-        ensures looks { (S.known s.old).alone ≡ true → IsByIndex self.old.scan.state → Looks S.sound self.old.scan.state (S.known s.old) (S.looked s.old) self.new.scan.state (S.known s.new) (S.looked s.new) }
+        ensures looks { (S.known s.old).alone ≡ true → IsByIndex self.old.scan.state → Looks S.sound self.old.scan.state (S.known s.old) (S.looked s.old) self.new.scan.state (S.known s.new) (S.looked s.new) (S.doubtful s.new) }
         ensures doubts { (S.known s.old).alone ≡ true → S.sound → KeepsDoubts self.old.scan.state (S.known s.old) (S.doubtful s.old) self.new.scan.state (S.known s.new) (S.doubtful s.new) }
         ensures one_call { S.one_call s.old s.new }
     {

@@ -17,10 +17,10 @@ pub returns-in-Err-clause-spends : goal.returns-in-Err-clause-spends
 returns-in-Err-clause-spends g c = bounding.spends_closing g.S.Steps.sound _ _ c.args.point c.args.end _
 
 pub returns-in-Ok-clause-looks : goal.returns-in-Ok-clause-looks
-returns-in-Ok-clause-looks g c = λ alone. looking.looks_none g.S.Steps.sound _ _ _ _ _ _ refl (c.close_point.ensures.unlooked alone) (omega arith)
+returns-in-Ok-clause-looks g c = λ alone. looking.looks_none g.S.Steps.sound _ _ _ _ _ _ _ refl (c.close_point.ensures.unlooked alone) (omega arith)
 
 pub returns-in-Err-clause-looks : goal.returns-in-Err-clause-looks
-returns-in-Err-clause-looks g c = λ alone. looking.looks_none g.S.Steps.sound _ _ _ _ _ _ refl (c.close_point.ensures.unlooked alone) (omega arith)
+returns-in-Err-clause-looks g c = λ alone. looking.looks_none g.S.Steps.sound _ _ _ _ _ _ _ refl (c.close_point.ensures.unlooked alone) (omega arith)
 
 pub returns-in-Ok-clause-doubts : goal.returns-in-Ok-clause-doubts
 returns-in-Ok-clause-doubts g c = λ alone sound. record { kept = λ h. tt; fixed = λ h. tt }

@@ -17,12 +17,12 @@ returns-in-Ok-keep_held-clause-turns g c = turning.consults g.S.Steps.sound _ _ 
 
 pub returns-in-Err-keep_held-clause-turns : goal.returns-in-Err-keep_held-clause-turns
 returns-in-Err-keep_held-clause-turns g c =
-    turning.fails g.S.Steps.sound _ _ (g.Q.Asks.asked c.args.query.now) c.args.scn c.args.x.point _ _ _ c.failed.ensures c.requires.0.reading refl (λ n le. le) (quieting.quiet-sees _ _ c.in-Ok.ensures.ok.finds.sees) (turning.no-memory g.S.Steps.sound _ _ _ c.in-Err-keep_held.ensures.err) (turning.no-memory-made _ _ _ c.in-Err-keep_held.ensures.err) tt
+    turning.fails g.S.Steps.sound _ _ (g.Q.Asks.asked c.args.query.now) c.args.scn c.args.x.point _ _ _ c.failed.ensures c.requires.0.reading refl tt (λ n le. le) (quieting.quiet-sees _ _ c.in-Ok.ensures.ok.finds.sees) (turning.no-memory g.S.Steps.sound (g.Q.Asks.asked c.args.query.now) _ _ c.in-Err-keep_held.ensures.err) (turning.no-memory-made _ _ _ c.in-Err-keep_held.ensures.err) tt
 
 pub returns-in-Err-clause-turns : goal.returns-in-Err-clause-turns
 returns-in-Err-clause-turns g c =
     let e = quieting.read_ends g.S.Steps.sound (g.Q.Asks.asked c.args.query.now) _ _ c.in-Err.f c.in-Err.ensures.refused in
-    turning.fails g.S.Steps.sound _ _ (g.Q.Asks.asked c.args.query.now) c.args.scn c.args.x.point _ _ _ c.failed-in-Err.ensures c.requires.0.reading refl (λ n le. le) e.quiet (rw c.fault_of.ensures e.told) (rw c.fault_of.ensures (e.made c.args.x.point.found.at c.requires.0.reading.point.within)) tt
+    turning.fails g.S.Steps.sound _ _ (g.Q.Asks.asked c.args.query.now) c.args.scn c.args.x.point _ _ _ c.failed-in-Err.ensures c.requires.0.reading refl tt (λ n le. le) e.quiet (rw c.fault_of.ensures e.told) (rw c.fault_of.ensures (e.made c.args.x.point.found.at c.requires.0.reading.point.within)) tt
 
 pub returns-in-Ok-keep_held-clause-spends : goal.returns-in-Ok-keep_held-clause-spends
 returns-in-Ok-keep_held-clause-spends g c = bounding.spends_consulting g.S.Steps.sound _ _ _ _ c.args.rest _ _
@@ -34,13 +34,13 @@ pub returns-in-Err-clause-spends : goal.returns-in-Err-clause-spends
 returns-in-Err-clause-spends g c = bounding.spends_end g.S.Steps.sound _ _ _ _ _ _ _ c.failed-in-Err.ensures refl (omega arith)
 
 pub returns-in-Ok-keep_held-clause-looks : goal.returns-in-Ok-keep_held-clause-looks
-returns-in-Ok-keep_held-clause-looks g c = λ alone. looking.looks_one g.S.Steps.sound _ _ _ _ _ _ refl (c.consult.ensures.looked_once alone) refl (omega arith)
+returns-in-Ok-keep_held-clause-looks g c = λ alone. looking.looks_one g.S.Steps.sound _ _ _ _ _ _ _ refl (c.consult.ensures.looked_once alone) refl (omega arith)
 
 pub returns-in-Err-keep_held-clause-looks : goal.returns-in-Err-keep_held-clause-looks
-returns-in-Err-keep_held-clause-looks g c = λ alone. looking.looks_one g.S.Steps.sound _ _ _ _ _ _ refl (c.consult.ensures.looked_once alone) refl (let none = looking.closing_look _ _ _ 0 c.failed.ensures in omega arith)
+returns-in-Err-keep_held-clause-looks g c = λ alone. looking.looks_one g.S.Steps.sound _ _ _ _ _ _ _ refl (c.consult.ensures.looked_once alone) refl (let none = looking.closing_look _ _ _ 0 c.failed.ensures in omega arith)
 
 pub returns-in-Err-clause-looks : goal.returns-in-Err-clause-looks
-returns-in-Err-clause-looks g c = λ alone. looking.looks_one g.S.Steps.sound _ _ _ _ _ _ refl (c.consult.ensures.looked_once alone) refl (let none = looking.closing_look _ _ _ 0 c.failed-in-Err.ensures in omega arith)
+returns-in-Err-clause-looks g c = λ alone. looking.looks_one g.S.Steps.sound _ _ _ _ _ _ _ refl (c.consult.ensures.looked_once alone) refl (let none = looking.closing_look _ _ _ 0 c.failed-in-Err.ensures in omega arith)
 
 pub returns-in-Ok-keep_held-clause-doubts : goal.returns-in-Ok-keep_held-clause-doubts
 returns-in-Ok-keep_held-clause-doubts g c = λ alone sound.

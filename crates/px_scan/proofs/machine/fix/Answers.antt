@@ -16,20 +16,20 @@ pub returns-then-is_busy-clause-turns : goal.returns-then-is_busy-clause-turns
 returns-then-is_busy-clause-turns g c =
     let yes : is_busy c.in-Err.f ≡ true = cc in
     let quiet = quieting.fix_busy g.S.Steps.sound _ _ c.in-Err.f c.in-Err.ensures.refused yes in
-    turning.steps g.S.Steps.sound _ _ (g.Q.Asks.asked c.args.query.now) c.args.scn c.args.x.point _ _ quiet refl (λ n le. le)
+    turning.steps g.S.Steps.sound _ _ (g.Q.Asks.asked c.args.query.now) c.args.scn c.args.x.point _ _ quiet refl tt (λ n le. le)
     (turning.goes-settling g.S.Steps.sound _ _ _ c.args.x c.args.rest c.args.doubt (turning.grown-scanning g.S.Steps.sound _ _ _ _ _ _ _ _ (quieting.grown-quiet _ _ quiet) c.requires.0) c.requires.1) refl
 
 pub returns-in-Ok-clause-turns : goal.returns-in-Ok-clause-turns
 returns-in-Ok-clause-turns g c =
     let quiet = quieting.quiet-fixes _ _ _ _ c.in-Ok.ensures.ok in
     let s = turning.grown-scanning g.S.Steps.sound _ _ _ _ _ _ _ _ (quieting.grown-quiet _ _ quiet) c.requires.0 in
-    turning.steps g.S.Steps.sound _ _ (g.Q.Asks.asked c.args.query.now) c.args.scn c.args.x.point _ _ quiet refl (λ n le. le) (c.go_on.ensures.goes c.args.scn _ s) (turning.after-fix _ _ _ _ _ c.go_on.ensures.next c.in-Ok.ensures.ok)
+    turning.steps g.S.Steps.sound _ _ (g.Q.Asks.asked c.args.query.now) c.args.scn c.args.x.point _ _ quiet refl tt (λ n le. le) (c.go_on.ensures.goes c.args.scn _ s) (turning.after-fix _ _ _ _ _ c.go_on.ensures.next c.in-Ok.ensures.ok)
 
 pub returns-else-is_busy-clause-turns : goal.returns-else-is_busy-clause-turns
 returns-else-is_busy-clause-turns g c =
     let no : is_busy c.in-Err.f ≡ false = cc in
     let e = quieting.fix_ends g.S.Steps.sound (g.Q.Asks.asked c.args.query.now) _ _ c.in-Err.f c.in-Err.ensures.refused no in
-    turning.fails g.S.Steps.sound _ _ (g.Q.Asks.asked c.args.query.now) c.args.scn c.args.x.point _ _ _ c.failed.ensures c.requires.0.reading refl (λ n le. le) e.quiet (rw c.fault_of.ensures e.told) (rw c.fault_of.ensures (e.made c.args.x.point.found.at c.requires.0.reading.point.within)) tt
+    turning.fails g.S.Steps.sound _ _ (g.Q.Asks.asked c.args.query.now) c.args.scn c.args.x.point _ _ _ c.failed.ensures c.requires.0.reading refl tt (λ n le. le) e.quiet (rw c.fault_of.ensures e.told) (rw c.fault_of.ensures (e.made c.args.x.point.found.at c.requires.0.reading.point.within)) tt
 
 pub returns-then-is_busy-clause-spends : goal.returns-then-is_busy-clause-spends
 returns-then-is_busy-clause-spends g c = bounding.spends_refused g.S.Steps.sound _ _ _ _ c.args.rest _ _
@@ -41,13 +41,13 @@ pub returns-else-is_busy-clause-spends : goal.returns-else-is_busy-clause-spends
 returns-else-is_busy-clause-spends g c = bounding.spends_end g.S.Steps.sound _ _ _ _ _ _ _ c.failed.ensures refl (bounding.at_least c.args.x c.args.rest c.args.doubt)
 
 pub returns-then-is_busy-clause-looks : goal.returns-then-is_busy-clause-looks
-returns-then-is_busy-clause-looks g c = λ alone. looking.looks_refused g.S.Steps.sound _ _ _ _ _ _ c.args.rest _ _ (c.fix.ensures.looked_once alone)
+returns-then-is_busy-clause-looks g c = λ alone. looking.looks_refused g.S.Steps.sound _ _ _ _ _ _ _ c.args.rest _ _ (c.fix.ensures.looked_once alone)
 
 pub returns-in-Ok-clause-looks : goal.returns-in-Ok-clause-looks
-returns-in-Ok-clause-looks g c = λ alone. looking.looks_one g.S.Steps.sound _ _ _ _ _ _ refl (c.fix.ensures.looked_once alone) refl (let most = c.go_on.ensures.to_look in omega arith)
+returns-in-Ok-clause-looks g c = λ alone. looking.looks_one g.S.Steps.sound _ _ _ _ _ _ _ refl (c.fix.ensures.looked_once alone) refl (let most = c.go_on.ensures.to_look in omega arith)
 
 pub returns-else-is_busy-clause-looks : goal.returns-else-is_busy-clause-looks
-returns-else-is_busy-clause-looks g c = λ alone. looking.looks_one g.S.Steps.sound _ _ _ _ _ _ refl (c.fix.ensures.looked_once alone) refl (let none = looking.closing_look _ _ _ 0 c.failed.ensures in omega arith)
+returns-else-is_busy-clause-looks g c = λ alone. looking.looks_one g.S.Steps.sound _ _ _ _ _ _ _ refl (c.fix.ensures.looked_once alone) refl (let none = looking.closing_look _ _ _ 0 c.failed.ensures in omega arith)
 
 pub returns-then-is_busy-clause-doubts : goal.returns-then-is_busy-clause-doubts
 returns-then-is_busy-clause-doubts g c = λ alone sound.

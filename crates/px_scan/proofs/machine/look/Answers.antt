@@ -13,13 +13,13 @@ fault_of-requires g c = (quieting.read_ends g.S.Steps.sound (g.Q.Asks.asked c.ar
 pub returns-in-Ok-clause-turns : goal.returns-in-Ok-clause-turns
 returns-in-Ok-clause-turns g c =
     let l = turning.looked g.S.Steps.sound _ _ (g.Q.Asks.asked c.args.query.now) c.args.scn c.args.x c.args.after _ c.requires c.in-Ok.ensures.ok in
-    turning.steps g.S.Steps.sound _ _ (g.Q.Asks.asked c.args.query.now) c.args.scn c.args.x.point _ _ (quieting.quiet-sees _ _ c.in-Ok.ensures.ok.finds.sees) refl (λ n le. le)
+    turning.steps g.S.Steps.sound _ _ (g.Q.Asks.asked c.args.query.now) c.args.scn c.args.x.point _ _ (quieting.quiet-sees _ _ c.in-Ok.ensures.ok.finds.sees) refl tt (λ n le. le)
     (c.go_on.ensures.goes c.args.scn _ (going.rest-scanning g.S.Steps.sound _ _ _ _ _ c.rest_of.result c.rest_of.ensures.keys c.rest_of.ensures.next c.rest_of.ensures.at l)) (turning.after-look g.S.Steps.sound c.args.x c.args.after _ _ _ _ c.go_on.ensures.next c.in-Ok.ensures.ok)
 
 pub returns-clause-turns : goal.returns-clause-turns
 returns-clause-turns g c =
     let e = quieting.read_ends g.S.Steps.sound (g.Q.Asks.asked c.args.query.now) _ _ c.in-Err.f c.in-Err.ensures.refused in
-    turning.fails g.S.Steps.sound _ _ (g.Q.Asks.asked c.args.query.now) c.args.scn c.args.x.point _ _ _ c.failed.ensures c.requires.0 refl (λ n le. le) e.quiet (rw c.fault_of.ensures e.told) (rw c.fault_of.ensures (e.made c.args.x.point.found.at c.requires.0.point.within)) tt
+    turning.fails g.S.Steps.sound _ _ (g.Q.Asks.asked c.args.query.now) c.args.scn c.args.x.point _ _ _ c.failed.ensures c.requires.0 refl tt (λ n le. le) e.quiet (rw c.fault_of.ensures e.told) (rw c.fault_of.ensures (e.made c.args.x.point.found.at c.requires.0.point.within)) tt
 
 pub returns-in-Ok-clause-spends : goal.returns-in-Ok-clause-spends
 returns-in-Ok-clause-spends g c = bounding.spends_look g.S.Steps.sound _ _ c.args.x c.args.after _ _ _ _ c.rest_of.ensures.keys c.rest_of.ensures.next c.in-Ok.ensures.ok c.go_on.ensures.left
@@ -28,10 +28,10 @@ pub returns-clause-spends : goal.returns-clause-spends
 returns-clause-spends g c = bounding.spends_end g.S.Steps.sound _ _ _ _ _ _ _ c.failed.ensures (inl refl) (omega arith)
 
 pub returns-in-Ok-clause-looks : goal.returns-in-Ok-clause-looks
-returns-in-Ok-clause-looks g c = λ alone is. looking.looks_chunk g.S.Steps.sound _ _ _ _ c.args.x c.args.after _ _ _ c.rest_of.ensures.keys c.in-Ok.ensures.ok (c.look.ensures.unlooked alone is.0 is.1) c.go_on.ensures.to_look
+returns-in-Ok-clause-looks g c = λ alone is. looking.looks_chunk g.S.Steps.sound _ _ _ _ _ c.args.x c.args.after _ _ _ c.rest_of.ensures.keys c.in-Ok.ensures.ok (λ so. c.in-Ok.ensures.doubts alone so) (c.look.ensures.unlooked alone is.0 is.1) c.go_on.ensures.to_look
 
 pub returns-clause-looks : goal.returns-clause-looks
-returns-clause-looks g c = λ alone is. looking.looks_none g.S.Steps.sound _ _ _ _ _ _ (inl refl) (c.look.ensures.unlooked alone is.0 is.1) (looking.closing_look _ _ _ _ c.failed.ensures)
+returns-clause-looks g c = λ alone is. looking.looks_none g.S.Steps.sound _ _ _ _ _ _ _ (inl refl) (c.look.ensures.unlooked alone is.0 is.1) (looking.closing_look _ _ _ _ c.failed.ensures)
 
 pub returns-in-Ok-clause-doubts : goal.returns-in-Ok-clause-doubts
 returns-in-Ok-clause-doubts g c = λ alone sound.

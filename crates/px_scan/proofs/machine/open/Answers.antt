@@ -57,22 +57,22 @@ pub returns-in-Err-Memory-clause-spends : goal.returns-in-Err-Memory-clause-spen
 returns-in-Err-Memory-clause-spends g c = bounding.spends_unopened g.S.Steps.sound _ _ c.args.rows _
 
 pub returns-in-Ok-clause-looks : goal.returns-in-Ok-clause-looks
-returns-in-Ok-clause-looks g c = λ alone. looking.looks_none g.S.Steps.sound _ _ _ _ _ _ refl (c.open_point.ensures.unlooked alone) (let none = c.follow.ensures.to_look in omega arith)
+returns-in-Ok-clause-looks g c = λ alone. looking.looks_none g.S.Steps.sound _ _ _ _ _ _ _ refl (c.open_point.ensures.unlooked alone) (let none = c.follow.ensures.to_look in omega arith)
 
 pub returns-in-Err-NotYet-clause-looks : goal.returns-in-Err-NotYet-clause-looks
-returns-in-Err-NotYet-clause-looks g c = λ alone. looking.looks_none g.S.Steps.sound _ _ _ _ _ _ refl (c.open_point.ensures.unlooked alone) (omega arith)
+returns-in-Err-NotYet-clause-looks g c = λ alone. looking.looks_none g.S.Steps.sound _ _ _ _ _ _ _ refl (c.open_point.ensures.unlooked alone) (omega arith)
 
 pub returns-in-Err-NoTable-clause-looks : goal.returns-in-Err-NoTable-clause-looks
-returns-in-Err-NoTable-clause-looks g c = λ alone. looking.looks_none g.S.Steps.sound _ _ _ _ _ _ refl (c.open_point.ensures.unlooked alone) (omega arith)
+returns-in-Err-NoTable-clause-looks g c = λ alone. looking.looks_none g.S.Steps.sound _ _ _ _ _ _ _ refl (c.open_point.ensures.unlooked alone) (omega arith)
 
 pub returns-in-Err-BelowHorizon-clause-looks : goal.returns-in-Err-BelowHorizon-clause-looks
-returns-in-Err-BelowHorizon-clause-looks g c = λ alone. looking.looks_none g.S.Steps.sound _ _ _ _ _ _ refl (c.open_point.ensures.unlooked alone) (omega arith)
+returns-in-Err-BelowHorizon-clause-looks g c = λ alone. looking.looks_none g.S.Steps.sound _ _ _ _ _ _ _ refl (c.open_point.ensures.unlooked alone) (omega arith)
 
 pub returns-in-Err-Closed-clause-looks : goal.returns-in-Err-Closed-clause-looks
-returns-in-Err-Closed-clause-looks g c = λ alone. looking.looks_none g.S.Steps.sound _ _ _ _ _ _ refl (c.open_point.ensures.unlooked alone) (omega arith)
+returns-in-Err-Closed-clause-looks g c = λ alone. looking.looks_none g.S.Steps.sound _ _ _ _ _ _ _ refl (c.open_point.ensures.unlooked alone) (omega arith)
 
 pub returns-in-Err-Memory-clause-looks : goal.returns-in-Err-Memory-clause-looks
-returns-in-Err-Memory-clause-looks g c = λ alone. looking.looks_none g.S.Steps.sound _ _ _ _ _ _ refl (c.open_point.ensures.unlooked alone) (omega arith)
+returns-in-Err-Memory-clause-looks g c = λ alone. looking.looks_none g.S.Steps.sound _ _ _ _ _ _ _ refl (c.open_point.ensures.unlooked alone) (omega arith)
 
 pub returns-in-Ok-clause-doubts : goal.returns-in-Ok-clause-doubts
 returns-in-Ok-clause-doubts g c = λ alone sound. record { kept = λ h. c.follow.ensures.doubts (g.S.Steps.doubtful c.open_point.new.self) (g.S.Steps.known c.open_point.new.self); fixed = λ h. tt }

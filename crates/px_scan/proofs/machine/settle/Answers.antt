@@ -13,19 +13,19 @@ fault_of-requires g c = (quieting.work_ends g.S.Steps.sound (g.Q.Asks.asked c.ar
 pub returns-in-Ok-Did-clause-turns : goal.returns-in-Ok-Did-clause-turns
 returns-in-Ok-Did-clause-turns g c =
     let quiet = quieting.quiet-works _ _ work.Did (rw c.in-Ok-Did.field-0-is at c.in-Ok-Did.ensures.ok) in
-    turning.steps g.S.Steps.sound _ _ (g.Q.Asks.asked c.args.query.now) c.args.scn c.args.x.point _ _ quiet refl (λ n le. le)
+    turning.steps g.S.Steps.sound _ _ (g.Q.Asks.asked c.args.query.now) c.args.scn c.args.x.point _ _ quiet refl tt (λ n le. le)
     (turning.goes-settling g.S.Steps.sound _ _ _ c.args.x c.args.rest c.args.doubt (turning.grown-scanning g.S.Steps.sound _ _ _ _ _ _ _ _ (quieting.grown-quiet _ _ quiet) c.requires.0) c.requires.1) refl
 
 pub returns-in-Ok-Idle-clause-turns : goal.returns-in-Ok-Idle-clause-turns
 returns-in-Ok-Idle-clause-turns g c =
     let quiet = quieting.quiet-works _ _ work.Idle (rw c.in-Ok-Idle.field-0-is at c.in-Ok-Idle.ensures.ok) in
-    turning.steps g.S.Steps.sound _ _ (g.Q.Asks.asked c.args.query.now) c.args.scn c.args.x.point _ _ quiet refl (λ n le. le)
+    turning.steps g.S.Steps.sound _ _ (g.Q.Asks.asked c.args.query.now) c.args.scn c.args.x.point _ _ quiet refl tt (λ n le. le)
     (turning.goes-fixing g.S.Steps.sound _ _ _ c.args.x c.args.rest c.args.doubt (turning.grown-scanning g.S.Steps.sound _ _ _ _ _ _ _ _ (quieting.grown-quiet _ _ quiet) c.requires.0) c.requires.1) refl
 
 pub returns-in-Err-clause-turns : goal.returns-in-Err-clause-turns
 returns-in-Err-clause-turns g c =
     let e = quieting.work_ends g.S.Steps.sound (g.Q.Asks.asked c.args.query.now) _ _ c.in-Err.f c.in-Err.ensures.refused in
-    turning.fails g.S.Steps.sound _ _ (g.Q.Asks.asked c.args.query.now) c.args.scn c.args.x.point _ _ _ c.failed.ensures c.requires.0.reading refl (λ n le. le) e.quiet (rw c.fault_of.ensures e.told) (rw c.fault_of.ensures (e.made c.args.x.point.found.at c.requires.0.reading.point.within)) tt
+    turning.fails g.S.Steps.sound _ _ (g.Q.Asks.asked c.args.query.now) c.args.scn c.args.x.point _ _ _ c.failed.ensures c.requires.0.reading refl tt (λ n le. le) e.quiet (rw c.fault_of.ensures e.told) (rw c.fault_of.ensures (e.made c.args.x.point.found.at c.requires.0.reading.point.within)) tt
 
 pub returns-in-Ok-Did-clause-spends : goal.returns-in-Ok-Did-clause-spends
 returns-in-Ok-Did-clause-spends g c = bounding.spends_settling g.S.Steps.sound _ _ _ _ c.args.rest _ _
@@ -37,13 +37,13 @@ pub returns-in-Err-clause-spends : goal.returns-in-Err-clause-spends
 returns-in-Err-clause-spends g c = bounding.spends_end g.S.Steps.sound _ _ _ _ _ _ _ c.failed.ensures refl (bounding.at_least c.args.x c.args.rest c.args.doubt)
 
 pub returns-in-Ok-Did-clause-looks : goal.returns-in-Ok-Did-clause-looks
-returns-in-Ok-Did-clause-looks g c = λ alone. looking.looks_none g.S.Steps.sound _ _ _ _ _ _ refl (c.upkeep.ensures.unlooked alone) (omega arith)
+returns-in-Ok-Did-clause-looks g c = λ alone. looking.looks_none g.S.Steps.sound _ _ _ _ _ _ _ refl (c.upkeep.ensures.unlooked alone) (omega arith)
 
 pub returns-in-Ok-Idle-clause-looks : goal.returns-in-Ok-Idle-clause-looks
-returns-in-Ok-Idle-clause-looks g c = λ alone. looking.looks_none g.S.Steps.sound _ _ _ _ _ _ refl (c.upkeep.ensures.unlooked alone) (omega arith)
+returns-in-Ok-Idle-clause-looks g c = λ alone. looking.looks_none g.S.Steps.sound _ _ _ _ _ _ _ refl (c.upkeep.ensures.unlooked alone) (omega arith)
 
 pub returns-in-Err-clause-looks : goal.returns-in-Err-clause-looks
-returns-in-Err-clause-looks g c = λ alone. looking.looks_none g.S.Steps.sound _ _ _ _ _ _ refl (c.upkeep.ensures.unlooked alone) (looking.closing_look _ _ _ _ c.failed.ensures)
+returns-in-Err-clause-looks g c = λ alone. looking.looks_none g.S.Steps.sound _ _ _ _ _ _ _ refl (c.upkeep.ensures.unlooked alone) (looking.closing_look _ _ _ _ c.failed.ensures)
 
 pub returns-in-Ok-Did-clause-doubts : goal.returns-in-Ok-Did-clause-doubts
 returns-in-Ok-Did-clause-doubts g c = λ alone sound. record {

@@ -12,5 +12,5 @@ invariant-steps g l =
       so_far : QuerySoFar g.S.Steps.sound (g.Q.Asks.asked l.fn.query) l.fn.scn (g.S.Steps.known l.fn.s) (g.S.Steps.known l.s) l.run.state;
       query : l.run.query ≡ l.fn.query;
       scn : l.run.scn ≡ l.fn.scn;
-      course : (first : QueryState) × IsQueryNew first × ((os : List QueryStep) × IsOnCourse g.S.Steps.sound (g.Q.Asks.asked l.fn.query) l.fn.scn (g.S.Steps.known l.fn.s) (g.S.Steps.looked l.fn.s) (g.S.Steps.doubtful l.fn.s) first l.run.state (g.S.Steps.known l.s) (g.S.Steps.looked l.s) (g.S.Steps.doubtful l.s) os);
+      course : (first : QueryState) × IsQueryNew first × ((os : List QueryStep) × IsOnCourse g.S.Steps (g.Q.Asks.asked l.fn.query) l.fn.scn l.fn.s first l.run.state l.s os);
     }
