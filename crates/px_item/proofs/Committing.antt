@@ -29,17 +29,17 @@ use Rattle.px_item.proofs.Passing.{Later, longer, of_ran, some_data, asks_later,
 module _ (sound : Type 0) (before : ℕ) (asked : Asked) (mine : List Act) where
   -- what is held is committed
 
-  held_is : (again : Bool) (run : CommitRun) (h : HeldData) (k : Known) → asked.settings.held ≡ Some h → (f : IsCommitting before asked again run k) → f.held ≡ h
+  held_is : (again : Bool) (run : CommitRun) (h : HeldData) (k : Known) → asked.settings.held ≡ Some h → (f : IsCommitting sound before asked again run k) → f.held ≡ h
   held_is again run h k is f = some_data f.held h (sym f.is ∙ is)
 
-  pub commit_fits : (again : Bool) (run : CommitRun) (h : HeldData) (k : Known) → asked.settings.held ≡ Some h → IsCommitting before asked again run k → commits.FitsCommit h run k
-  commit_fits again run h k is f = subst (λ (x : HeldData). commits.FitsCommit x run k) (held_is again run h k is f) f.fits
+  pub commit_fits : (again : Bool) (run : CommitRun) (h : HeldData) (k : Known) → asked.settings.held ≡ Some h → IsCommitting sound before asked again run k → commits.FitsCommit sound h run k
+  commit_fits again run h k is f = subst (λ (x : HeldData). commits.FitsCommit sound x run k) (held_is again run h k is f) f.fits
 
-  asks_now : (again : Bool) (run : CommitRun) (h : HeldData) (k k' : Known) → asked.settings.held ≡ Some h → IsCommitting before asked again run k → Later k k' → AsksToCommit k' asked.first asked.settings (seen_piece asked.piece) h again
+  asks_now : (again : Bool) (run : CommitRun) (h : HeldData) (k k' : Known) → asked.settings.held ≡ Some h → IsCommitting sound before asked again run k → Later k k' → AsksToCommit k' asked.first asked.settings (seen_piece asked.piece) h again
   asks_now again run h k k' is f later =
       asks_later k k' asked.first asked.settings (seen_piece asked.piece) h again later (subst (λ (x : HeldData). AsksToCommit k asked.first asked.settings (seen_piece asked.piece) x again) (held_is again run h k is f) f.asks)
 
-  commit_stays : (again : Bool) (old new : CommitRun) (h : HeldData) (k k' : Known) (acts : List Act) → asked.settings.held ≡ Some h → FitsItem sound before asked mine (state.Committing again old) k → Ran k k' acts → commits.FitsCommit h new k' → commits.begun_by_commit old ++ outline acts ≡ commits.begun_by_commit new
+  commit_stays : (again : Bool) (old new : CommitRun) (h : HeldData) (k k' : Known) (acts : List Act) → asked.settings.held ≡ Some h → FitsItem sound before asked mine (state.Committing again old) k → Ran k k' acts → commits.FitsCommit sound h new k' → commits.begun_by_commit old ++ outline acts ≡ commits.begun_by_commit new
       → commits.IsCommitSince before new k' → FitsItem sound before asked (mine ++ outline acts) (state.Committing again new) k'
   commit_stays again old new h k k' acts is f ran fits sum since =
       let later = of_ran k k' acts ran in

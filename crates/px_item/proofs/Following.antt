@@ -147,7 +147,7 @@ module _ (sound : Type 0) (before : ℕ) (asked : Asked) (mine : List Act) where
       let low = fits.begins in
       let within = fits.within in
       let b = bound_here asked k (table_named x) f fits.within found named in
-      let F : BatchState → Type 0 = λ z. batch.FitsBatch run.table run.changes z k × batch.IsBatchGoing z × batch.IsBatchSince before z k × ([] ≡ batch.begun_by_batch run.table run.changes z) in
+      let F : BatchState → Type 0 = λ z. batch.FitsBatch sound run.table run.changes z k × batch.IsBatchGoing z × batch.IsBatchSince before z k × ([] ≡ batch.begun_by_batch run.table run.changes z) in
       let G : TableId × List Change → Type 0 = λ q. AreFitting k q.0.0 q.1 in
       let begins = subst F (sym n.5) (subst G (λ i. (sym n.3 i, sym n.4 i)) (fitting k f (upsert_change f.table n.0) found n.6), tt, omega arith, refl) in
       record {
@@ -286,7 +286,7 @@ module _ (sound : Type 0) (before : ℕ) (asked : Asked) (mine : List Act) where
         let within = found_fits.within in
         let way : MakesWay k' asked.first asked.settings (seen_piece asked.piece) h =
         record { statement = x; found = f; read = found_fits.state.read; free = found_fits.state.free change; holds = may; bound = found_bound; right = none; other = g.2.2 } in
-        let F : CommitRun → Type 0 = λ r. commits.FitsCommit h r k' × commits.IsCommitSince before r k' × ([] ≡ commits.begun_by_commit r) in
+        let F : CommitRun → Type 0 = λ r. commits.FitsCommit sound h r k' × commits.IsCommitSince before r k' × ([] ≡ commits.begun_by_commit r) in
         let new = subst F (sym g.1) (tt, omega arith, refl) in
         record {
           begins = found_fits.begins;

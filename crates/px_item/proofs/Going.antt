@@ -37,9 +37,10 @@ use Rattle.px_item.specs.Builds.{to_build}
 use Rattle.px_item.specs.Right as right
 use Rattle.px_item.specs.Right.{IsBoundTo, IsChanged, IsDefined, IsDeletion, IsReadItem, IsRight, SaysOnly, known_after, changes, deletion_query, definition_asked, one_change, plain, table_named}
 use Rattle.px_item.specs.Turns.{FitsItem, IsAsking, IsCreating, IsDefining, ItemTurns}
-use Rattle.px_item.proofs.Plain.{batch_plain, batch_since_plain, define_plain, define_since_plain, defined_plain, ended_plain, outcome_plain, query_since_plain, removed_plain, stopped_first, stopped_plain}
+use Rattle.px_item.proofs.Plain.{batch_plain, batch_since_plain, define_plain, define_since_plain, defined_plain, ended_plain, outcome_plain, query_end_plain, query_since_plain, removed_plain, stopped_first, stopped_plain}
 use Rattle.px_planned.specs.Queries.{query_of}
 use Rattle.px_planned.specs.declared.planned.Planned.{Planned}
+use Rattle.px_scan.specs.Faults.{QueryEndSince}
 use Rattle.px_scan.specs.Turns as scan
 use Rattle.px_scan.specs.declared.answer.QueryFault.{QueryFault}
 use Rattle.px_deleting.specs.Deleting as deleting
@@ -79,12 +80,12 @@ module _ (sound : Type 0) (before : ℕ) (asked : Asked) (mine : List Act) where
   -- 3. A batch goes on, and is over
 
   pub change_goes_on : (x : Statement) (old new : BatchRun) (room : _) (k k' : Known) (acts : List Act) → FitsItem sound before asked mine (state.Changing x old room) k → new.table ≡ old.table → new.changes ≡ old.changes → Ran k k' acts
-      → batch.FitsBatch old.table old.changes new.state k' → batch.IsBatchGoing new.state → batch.begun_by_batch old.table old.changes old.state ++ outline acts ≡ batch.begun_by_batch old.table old.changes new.state → batch.IsBatchSince before new.state k'
+      → batch.FitsBatch sound old.table old.changes new.state k' → batch.IsBatchGoing new.state → batch.begun_by_batch old.table old.changes old.state ++ outline acts ≡ batch.begun_by_batch old.table old.changes new.state → batch.IsBatchSince before new.state k'
       → FitsItem sound before asked (mine ++ outline acts) (state.Changing x new room) k'
   change_goes_on x old new room k k' acts f table changes ran fits going sum since =
       let later = of_ran k k' acts ran in
       let j = f.state.1 in
-      let F : TableId × List Change → Type 0 = λ q. batch.FitsBatch q.0 q.1 new.state k' in
+      let F : TableId × List Change → Type 0 = λ q. batch.FitsBatch sound q.0 q.1 new.state k' in
       let G : TableId × List Change → Type 0 = λ q. batch.begun_by_batch old.table old.changes old.state ++ outline acts ≡ batch.begun_by_batch q.0 q.1 new.state in
       record {
         begins = f.begins;
@@ -115,7 +116,7 @@ module _ (sound : Type 0) (before : ℕ) (asked : Asked) (mine : List Act) where
       let later = of_ran k k' t.acts t.ran in
       let j = f.state.1 in
       let own = mine ++ outline t.acts in
-      let F : TableId × List Change × List Act → Type 0 = λ q. batch.HasEndedBatch q.0 q.1 q.2 k' r in
+      let F : TableId × List Change × List Act → Type 0 = λ q. batch.HasEndedBatch sound q.0 q.1 q.2 k' r in
       let ended = subst F (λ i. (j.table i, j.changes i, sym (and_then mine _ t.acts f.done) i)) t.told.1 in
       let bound = subst (λ (n : ℕ). IsBoundTo k'.base k'.seen n j.found j.upsert.table) (sym c.0) (bound_later k k' asked.first j.found j.upsert.table later j.bound) in
       record {
@@ -124,7 +125,7 @@ module _ (sound : Type 0) (before : ℕ) (asked : Asked) (mine : List Act) where
         told = (
           first_low asked a c.0,
           first_within asked k' a (longer k k' asked.first later f.within) c.0,
-          right.is_changed j.upsert j.found r (subst (λ (y : Statement). IsReadItem (seen_piece asked.piece) (Ok y)) j.is f.state.0.read) (f.state.0.free (ap changes j.is)) j.alone bound j.right (ended_plain j.found.table.id (one_change j.found j.upsert) own k' r ended) c.1,
+          right.is_changed j.upsert j.found r (subst (λ (y : Statement). IsReadItem (seen_piece asked.piece) (Ok y)) j.is f.state.0.read) (f.state.0.free (ap changes j.is)) j.alone bound j.right (ended_plain sound j.found.table.id (one_change j.found j.upsert) own k' r ended) c.1,
         );
       }
   change_is_over x old new room k k' (Err e) a f t c =
@@ -259,13 +260,14 @@ module _ (sound : Type 0) (before : ℕ) (asked : Asked) (mine : List Act) where
       let bound = bound_later k k' before j.found j.select.table later j.bound in
       let out = outcome_plain sound old.scan.query asked.settings.scn own k' (Err e) (subst (λ (z : Option ℕ × List Act). selecting.IsSelectOutcome sound old.scan.query z.0 z.1 k' (Err e)) (λ i. (j.scn i, sym (and_then mine (scan.opened_by_query old.scan.state) t.acts f.done) i)) t.told.1) in
       let F : Statement → Type 0 = λ y. right.SaysRefused a (right.query_refusal (table_named y) e) asked.settings ⊎ right.SaysRefused a refusal.Memory asked.settings in
+      let since = query_end_plain before (query_of old.scan.query) asked.settings.scn e k' (subst (λ (z : Option ℕ). QueryEndSince before (query_of old.scan.query) z e k') j.scn (t.since before j.since)) in
       record {
         acts = t.acts;
         ran = t.ran;
         told = (
           first_low asked a c.0,
           first_within asked k' a (longer k k' asked.first later f.within) c.0,
-          right.is_not_selected j.select j.found old.scan.query e (subst (λ (y : Statement). IsReadItem (seen_piece asked.piece) (Ok y)) j.is f.state.0.read) bound j.planned out (query_since_plain before e k' (t.since before j.since)) (subst F j.is c.1),
+          right.is_not_selected j.select j.found old.scan.query e (subst (λ (y : Statement). IsReadItem (seen_piece asked.piece) (Ok y)) j.is f.state.0.read) bound j.planned out since (subst F j.is c.1),
         );
       }
 

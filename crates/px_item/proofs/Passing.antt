@@ -237,7 +237,7 @@ module _ (sound : Type 0) (before : ℕ) (asked : Asked) (mine : List Act) where
           right = j.right;
           table = j.table;
           changes = j.changes;
-          fits = turning.fits-kept run.table run.changes run.state k k' h j.fits;
+          fits = turning.fits-kept sound run.table run.changes run.state k k' h j.fits;
           going = j.going;
           since = since_passes k k' run.state before h j.since;
         },
@@ -320,7 +320,7 @@ module _ (sound : Type 0) (before : ℕ) (asked : Asked) (mine : List Act) where
         held = f.held;
         is = f.is;
         asks = asks_later k k' asked.first asked.settings (seen_piece asked.piece) f.held again (of_passes k k' h) f.asks;
-        fits = commanding.fits-kept f.held run k k' h f.fits;
+        fits = commanding.fits-kept sound f.held run k k' h f.fits;
         since = commit_since before run k k' h f.since;
       }
   state_passes (state.Counting name run) k k' h f = record { read = f.read; fits = numbering.fits-kept asked.first name run k k' h f.fits }

@@ -35,7 +35,7 @@ use Rattle.px_upkeep.specs.declared.build.BuildFault.{BuildFault}
 use Rattle.px_gather.specs.Query.{Query}
 use Rattle.px_planned.specs.Queries.{query_of}
 use Rattle.px_planned.specs.declared.planned.Planned.{Planned}
-use Rattle.px_scan.specs.Faults.{IsJoined, QueryFaultIs, QueryFaultSince}
+use Rattle.px_scan.specs.Faults.{IsJoined, QueryEndSince, QueryFaultIs, QueryFaultSince}
 use Rattle.px_scan.specs.declared.answer.QueryFault.{QueryFault}
 use Rattle.px_scan.specs.declared.answer.QueryFault.TheVariants as unread
 use Rattle.px_select.specs.Selecting.{IsSelectOutcome}
@@ -83,12 +83,13 @@ finished_plain : (u : Option ℕ) (b : Batch) (k : Known) → IsFinished u b k �
 finished_plain None b k h = h
 finished_plain (Some call) b k h = h
 
-pub ended_plain : (t : TableId) (cs : List Change) (own : List Act) (k : Known) (r : Receipt) → batch.HasEndedBatch t cs own k r → batch.HasEndedBatch t cs own (plain k) r
-ended_plain t cs own k r h =
+pub ended_plain : (sound : Type 0) (t : TableId) (cs : List Change) (own : List Act) (k : Known) (r : Receipt) → batch.HasEndedBatch sound t cs own k r → batch.HasEndedBatch sound t cs own (plain k) r
+ended_plain sound t cs own k r h =
     let i = h.receipt in
     record {
       one = h.one;
       receipt = record { table = i.table; stamp = i.stamp; at = i.at; batch = i.batch; is = i.is; rows = i.rows; once = i.once; concurrent = i.concurrent; finished = finished_plain r.unfinished i.batch k i.finished };
+      kept = h.kept;
     }
 
 table_plain : (what : NewTable) (f : StepFault) (k : Known) → new_table_cause what f k → new_table_cause what f (plain k)
@@ -175,16 +176,16 @@ unbuilt_plain sound n t i own k f h = (record { was = h.0.was; past = past_plain
 pub behind_plain : (n : ℕ) (e : Definition) (m : Made) (own rest : List Act) (k : Known) → IsBuiltBehind n e m own rest k → IsBuiltBehind n e m own rest (plain k)
 behind_plain n e m own rest k h = record { one = h.one; made = h.made; from = h.from; within = h.within }
 
-joined_plain : (q : Query) (k : Known) → IsJoined q k → IsJoined q (plain k)
-joined_plain q k j = record { found = j.found; within = j.within; is = j.is; table = j.table; stamp = j.stamp; joins = j.joins }
+joined_plain : (n : ℕ) (q : Query) (scn : Option ℕ) (k : Known) → IsJoined n q scn k → IsJoined n q scn (plain k)
+joined_plain n q scn k j = record { point = j.point; from = j.from; is_point = j.is_point; joins = j.joins }
 
 query_plain : (sound : Type 0) (q : Query) (scn : Option ℕ) (f : QueryFault) (k : Known) → QueryFaultIs sound q scn f k → QueryFaultIs sound q scn f (plain k)
 query_plain sound q None unread.NoTable k h = h
 query_plain sound q (Some n) unread.NoTable k h = h
 query_plain sound q None (unread.BelowHorizon b) k h = absurd h
 query_plain sound q (Some n) (unread.BelowHorizon b) k h = h
-query_plain sound q None unread.IndexJoin k h = joined_plain q k h
-query_plain sound q (Some n) unread.IndexJoin k h = joined_plain q k h
+query_plain sound q None unread.IndexJoin k h = joined_plain 0 q None k h
+query_plain sound q (Some n) unread.IndexJoin k h = joined_plain 0 q (Some n) k h
 query_plain sound q None unread.ReadFault k h = h
 query_plain sound q (Some n) unread.ReadFault k h = h
 query_plain sound q None unread.WriteFault k h = h
@@ -200,6 +201,12 @@ pub query_since_plain : (n : ℕ) (f : QueryFault) (k : Known) → QueryFaultSin
 query_since_plain n unread.ReadFault k h = h
 query_since_plain n unread.WriteFault k h = h
 query_since_plain n f k h = h
+
+pub query_end_plain : (n : ℕ) (q : Query) (scn : Option ℕ) (f : QueryFault) (k : Known) → QueryEndSince n q scn f k → QueryEndSince n q scn f (plain k)
+query_end_plain n q scn unread.IndexJoin k h = joined_plain n q scn k h
+query_end_plain n q scn unread.ReadFault k h = h
+query_end_plain n q scn unread.WriteFault k h = h
+query_end_plain n q scn f k h = h
 
 pub outcome_plain : (sound : Type 0) (p : Planned) (scn : Option ℕ) (own : List Act) (k : Known) (r : Result Selected QueryFault) → IsSelectOutcome sound p scn own k r → IsSelectOutcome sound p scn own (plain k) r
 outcome_plain sound p scn own k (Ok a) h = (record { point = h.0.point; is_point = h.0.is_point; at = h.0.at; path = h.0.path; chosen = h.0.chosen; taken = h.0.taken; answer = h.0.answer }, h.1, h.2, h.3)
@@ -228,7 +235,7 @@ removed_plain sound p own k rs m h =
       finding = h.finding;
       making = h.making;
       found = found-later sound p k (plain k) m.first h.finding h.changes now h.found;
-      made = all-later k (plain k) p.table.id h.parts rs h.making now h.made;
+      made = all-later sound k (plain k) p.table.id h.parts rs h.making now h.made;
       split = h.split;
       rows = h.rows;
       own_is = h.own_is;
@@ -247,7 +254,7 @@ stopped_plain sound p own k rs told f e h =
       making = h.making;
       stopping = h.stopping;
       found = found-later sound p k (plain k) h.first h.finding h.changes now h.found;
-      made = subst (λ (l : List Receipt). deleting.AreMade (plain k) p.table.id h.parts l h.making) (sym e) (all-later k (plain k) p.table.id h.parts rs h.making now h.made);
+      made = subst (λ (l : List Receipt). deleting.AreMade sound (plain k) p.table.id h.parts l h.making) (sym e) (all-later sound k (plain k) p.table.id h.parts rs h.making now h.made);
       split = h.split;
       some = h.some;
       outcome = (batch_plain sound p.table.id (Rattle.std.specs.Prelude.take 1000 h.rest) f k h.outcome.0, h.outcome.1);
@@ -269,7 +276,7 @@ commit_plain sound h (unmade.Closed call) k i = i
 commit_plain sound h unmade.Memory k i = i
 
 pub committed_plain : (sound : Type 0) (h : HeldData) (own : List Act) (k : Known) (r : Result (Vec Receipt Global) BatchFault) → commits.IsCommitOutcome sound h own k r → commits.IsCommitOutcome sound h own (plain k) r
-committed_plain sound h own k (Ok rs) o = (o.0, o.1, ended_plain h.table h.changes own k o.0 o.2)
+committed_plain sound h own k (Ok rs) o = (o.0, o.1, ended_plain sound h.table h.changes own k o.0 o.2)
 committed_plain sound h own k (Err f) o = (commit_plain sound h f k o.0, o.1)
 
 pub asks_plain : (k : Known) (first : ℕ) (st : Settings) (p : SeenPiece) (h : HeldData) (again : Bool) → AsksToCommit k first st p h again → AsksToCommit (plain k) first st p h again

@@ -16,8 +16,8 @@ use Rattle.px_item.specs.Selects.{ScansTo}
 pub scans_to_end : (sound : Type 0) (run : SelectRun) (k k' : Known) (q : QueryState) (t : QueryTurn) → q ≡ query_state.Over → scan.QueryTurns sound (query_of run.scan.query) run.scan.scn run.scan.state k q k' t → ScansTo sound run k k' query_state.Over
 scans_to_end sound run k k' q t is h = (t, subst (λ (s : QueryState). scan.QueryTurns sound (query_of run.scan.query) run.scan.scn run.scan.state k s k' t) is h)
 
-pub looks_to_end : (sound : Type 0) (old : QueryState) (k : Known) (m : ℕ) (q : QueryState) (k' : Known) (n : ℕ) → q ≡ query_state.Over → Looks sound old k m q k' n → Looks sound old k m query_state.Over k' n
-looks_to_end sound old k m q k' n is h = subst (λ (s : QueryState). Looks sound old k m s k' n) is h
+pub looks_to_end : (sound : Type 0) (old : QueryState) (k : Known) (m : ℕ) (q : QueryState) (k' : Known) (n : ℕ) (f : Point → IndexVersion → Bool) → q ≡ query_state.Over → Looks sound old k m q k' n f → Looks sound old k m query_state.Over k' n f
+looks_to_end sound old k m q k' n f is h = subst (λ (s : QueryState). Looks sound old k m s k' n f) is h
 
 pub keeps_to_end : (old : QueryState) (k : Known) (f : Point → IndexVersion → Bool) (q : QueryState) (k' : Known) (f' : Point → IndexVersion → Bool) → q ≡ query_state.Over → KeepsDoubts old k f q k' f' → KeepsDoubts old k f query_state.Over k' f'
 keeps_to_end old k f q k' f' is h = subst (λ (s : QueryState). KeepsDoubts old k f s k' f') is h

@@ -10,6 +10,7 @@ use Rattle.px_calls.specs.Known.{Known, Ran, outline}
 use Rattle.px_planned.specs.Queries.{query_of}
 use Rattle.px_planned.specs.declared.planned.Planned.{Planned}
 use Rattle.px_scan.specs.Turns as scan
+use Rattle.px_scan.proofs.Quieting.{device-since}
 use Rattle.px_scan.specs.declared.answer.QueryFault.{QueryFault}
 use Rattle.px_scan.specs.declared.answer.QueryFault.TheVariants as unread
 use Rattle.px_scan.specs.declared.machine.QueryState.{QueryState}
@@ -120,13 +121,13 @@ module _ (sound : Type 0) (before : ℕ) (asked : Asked) (mine : List Act) where
   sought_first x t (Err e) a c = c.0
 
   sought_told : (x : Statement) (run : SelectRun) (k k' : Known) (t : Table) (own : List Act) (r : Result Selected QueryFault) (new : QueryState) (a : Answered) → (j : IsSeeking sound asked x run k) → Later k k' → IsReadItem (seen_piece asked.piece) (Ok x) → asked.settings.scn ≡ None
-      → selecting.IsSelectOutcome sound (deletion_query j.found j.delete) None own k' r → selecting.IsSelectSinceThen asked.first new k' (ended.Over r) → t ≡ run.scan.query.table → (c : IsSought asked x t r a) → IsRight sound (plain k') before own asked.settings (seen_piece asked.piece) a
+      → selecting.IsSelectOutcome sound (deletion_query j.found j.delete) None own k' r → selecting.IsSelectSinceThen asked.first run.scan.query run.scan.scn new k' (ended.Over r) → t ≡ run.scan.query.table → (c : IsSought asked x t r a) → IsRight sound (plain k') before own asked.settings (seen_piece asked.piece) a
   sought_told x run k k' t own (Ok r) new a j later read free out since of c =
       let same = table_is sound asked x run k t j of in
       found_told x run k k' j later read free own a (sought_first x t (Ok r) a c) r out since (subst (λ (y : Table). KeepsFound asked y r a) (sym same) c)
   sought_told x run k k' t own (Err e) new a j later read free out since of c =
       let F : Statement → Type 0 = λ y. right.SaysRefused a (right.query_refusal (table_named y) e) asked.settings ⊎ right.SaysRefused a refusal.Memory asked.settings in
-      unread_told x run k k' j later read free own a c.0 e out since (subst F j.is c.1)
+      unread_told x run k k' j later read free own a c.0 e out (device-since asked.first (query_of run.scan.query) run.scan.scn e k' since) (subst F j.is c.1)
 
   pub seek_is_over : (x : Statement) (old new : SelectRun) (k k' : Known) (t : Table) (r : Result Selected QueryFault) (a : Answered) → FitsItem sound before asked mine (state.Seeking x old) k
       → SelectTurns sound old.scan.query old.scan.scn old.scan.state k new.scan.state k' (ended.Over r) → t ≡ old.scan.query.table → IsSought asked x t r a → ItemTurns sound before asked mine k k' (turn.Over a)

@@ -63,7 +63,7 @@ start_state sound before asked (state.Deleting y run) k low within i = absurd i
 start_state sound before asked (state.Seeking y run) k low within i = absurd i
 start_state sound before asked (state.Committing again run) k low within i =
     let h = some_held asked.settings.held i.1 in
-    let F : CommitRun → Type 0 = λ r. commits.FitsCommit h.0 r k × commits.IsCommitSince before r k × ([] ≡ commits.begun_by_commit r) in
+    let F : CommitRun → Type 0 = λ r. commits.FitsCommit sound h.0 r k × commits.IsCommitSince before r k × ([] ≡ commits.begun_by_commit r) in
     let new = subst F (sym i.2) (tt, omega arith, refl) in
     (record { held = h.0; is = h.1; asks = asks_itself k asked.first asked.settings (seen_piece asked.piece) h.0 again i.0; fits = new.0; since = new.1 }, new.2)
 start_state sound before asked (state.Counting name run) k low within i =

@@ -56,6 +56,7 @@ use Rattle.px_plan.specs.declared.plan.Plan.{Plan}
 use Rattle.px_plan.specs.declared.plan.PlanFault.{PlanFault}
 use Rattle.px_plan.specs.declared.plan.PlanFault.TheVariants.{IndexJoin}
 use Rattle.px_planned.specs.declared.planned.Planned.{Planned}
+use Rattle.px_planned.specs.Queries.{query_of}
 use Rattle.px_scan.specs.Faults as scan
 use Rattle.px_scan.specs.Turns as scanning
 use Rattle.px_scan.specs.declared.answer.QueryFault.{QueryFault}
@@ -521,7 +522,7 @@ pub data IsRight (sound : Type 0) (k : Known) (before : ℕ) (own : List Act) (s
   is_wrong : (x : Statement) (f : Found) (fault : BindFault) → IsReadItem p (Ok x) → MayRun st x → IsBoundTo k.base k.seen a.first f (table_named x) → IsFirstBindFault (faults_in f x) fault → SaysRefused a (bind_refusal fault) st → own ≡ []
       → IsRight sound k before own st p a
   -- an UPSERT is one batch of one row, and its receipt is told
-  is_changed : (u : Upsert) (f : Found) (r : Receipt) → IsReadItem p (Ok (s.Upsert u)) → st.scn ≡ None → st.autocommit ≡ true → IsBoundTo k.base k.seen a.first f u.table → upsert_faults f.table u ≡ [] → batch.HasEndedBatch f.table.id (one_change f u) own k r
+  is_changed : (u : Upsert) (f : Found) (r : Receipt) → IsReadItem p (Ok (s.Upsert u)) → st.scn ≡ None → st.autocommit ≡ true → IsBoundTo k.base k.seen a.first f u.table → upsert_faults f.table u ≡ [] → batch.HasEndedBatch sound f.table.id (one_change f u) own k r
       → (a.reply ≡ reply.Count 1 Affected) × (a.receipts ≡ r ∷ []) × (a.places ≡ []) × (a.after ≡ next_is.Next st) → IsRight sound k before own st p a
   is_not_changed : (u : Upsert) (f : Found) (fault : BatchFault) → IsReadItem p (Ok (s.Upsert u)) → st.scn ≡ None → st.autocommit ≡ true → IsBoundTo k.base k.seen a.first f u.table → upsert_faults f.table u ≡ [] → batch.BatchFaultIs sound f.table.id (one_change f u) fault k
       → batch.BatchFaultSince before fault k → batch.HasLeft f.table.id (one_change f u) fault own k → SaysRefused a (batch_refusal u.table fault) st → IsRight sound k before own st p a
@@ -563,7 +564,7 @@ pub data IsRight (sound : Type 0) (k : Known) (before : ℕ) (own : List Act) (s
   -- a SELECT is answered at a point, by a path that is chosen there: exactly, under an SCN; and else as it is current
   is_selected : (q : Select) (f : Found) (x : Planned) (r : Selected) → IsReadItem p (Ok (s.Select q)) → IsBoundTo k.base k.seen before f q.table → IsAskedOf f q x → selecting.IsSelectOutcome sound x st.scn own k (Ok r) → SaysRows a r st
       → IsRight sound k before own st p a
-  is_not_selected : (q : Select) (f : Found) (x : Planned) (fault : QueryFault) → IsReadItem p (Ok (s.Select q)) → IsBoundTo k.base k.seen before f q.table → IsAskedOf f q x → selecting.IsSelectOutcome sound x st.scn own k (Err fault) → scan.QueryFaultSince before fault k
+  is_not_selected : (q : Select) (f : Found) (x : Planned) (fault : QueryFault) → IsReadItem p (Ok (s.Select q)) → IsBoundTo k.base k.seen before f q.table → IsAskedOf f q x → selecting.IsSelectOutcome sound x st.scn own k (Err fault) → scan.QueryEndSince before (query_of x) st.scn fault k
       → SaysRefused a (query_refusal q.table fault) st ⊎ SaysRefused a refusal.Memory st → IsRight sound k before own st p a
   -- a DELETE removes the rows that a current query found before the first of its batches, and their receipts are told with the number of rows
   is_deleted : (x : Delete) (f : Found) (m : Removed) → IsReadItem p (Ok (s.Delete x)) → st.scn ≡ None → st.autocommit ≡ true → IsBoundTo k.base k.seen a.first f x.table → delete_faults f.table.columns x ≡ [] → deleting.HasRemoved sound (deletion_query f x) own k a.receipts m

@@ -62,7 +62,7 @@ pub record IsAsking (asked : Asked) (x : Statement) : Type 0 where
   pub free : MayRun asked.settings x
 
 -- the batch of an UPSERT is under way
-pub record IsChanging (before : ℕ) (asked : Asked) (x : Statement) (run : BatchRun) (k : Known) : Type 0 where
+pub record IsChanging (sound : Type 0) (before : ℕ) (asked : Asked) (x : Statement) (run : BatchRun) (k : Known) : Type 0 where
   pub upsert : Upsert
   pub is : x ≡ s.Upsert upsert
   pub alone : asked.settings.autocommit ≡ true
@@ -71,7 +71,7 @@ pub record IsChanging (before : ℕ) (asked : Asked) (x : Statement) (run : Batc
   pub right : upsert_faults found.table upsert ≡ []
   pub table : run.table ≡ found.table.id
   pub changes : run.changes ≡ one_change found upsert
-  pub fits : batch.FitsBatch run.table run.changes run.state k
+  pub fits : batch.FitsBatch sound run.table run.changes run.state k
   pub going : batch.IsBatchGoing run.state
   pub since : batch.IsBatchSince before run.state k
 
@@ -153,11 +153,11 @@ pub record IsSeeking (sound : Type 0) (asked : Asked) (x : Statement) (run : Sel
   pub since : scan.IsQuerySince asked.first run.scan.state k
 
 -- what is held is being committed
-pub record IsCommitting (before : ℕ) (asked : Asked) (again : Bool) (run : CommitRun) (k : Known) : Type 0 where
+pub record IsCommitting (sound : Type 0) (before : ℕ) (asked : Asked) (again : Bool) (run : CommitRun) (k : Known) : Type 0 where
   pub held : HeldData
   pub is : asked.settings.held ≡ Some held
   pub asks : AsksToCommit k asked.first asked.settings (seen_piece asked.piece) held again
-  pub fits : commits.FitsCommit held run k
+  pub fits : commits.FitsCommit sound held run k
   pub since : commits.IsCommitSince before run k
 
 -- a table is being counted
@@ -171,13 +171,13 @@ IsOrdering asked run = IsCommandRead (seen_piece asked.piece) (Ok (command_order
 
 abbrev pub FitsState : Type 0 → ℕ → Asked → List Act → ItemState → Known → Type 0
 FitsState sound before asked own (state.Finding x) k = IsAsking asked x
-FitsState sound before asked own (state.Changing x run room) k = IsAsking asked x × IsChanging before asked x run k × HasRoomForOne room
+FitsState sound before asked own (state.Changing x run room) k = IsAsking asked x × IsChanging sound before asked x run k × HasRoomForOne room
 FitsState sound before asked own (state.Defining x run) k = IsAsking asked x × (IsDefining sound asked x run k ⊎ IsCreating sound x run k)
 FitsState sound before asked own (state.Building x run) k = IsAsking asked x × IsBuilding sound asked own x run k
 FitsState sound before asked own (state.Selecting x run) k = IsAsking asked x × IsSelecting sound before asked x run k
 FitsState sound before asked own (state.Deleting x run) k = IsAsking asked x × IsDeleting sound asked own x run k
 FitsState sound before asked own (state.Seeking x run) k = IsAsking asked x × IsSeeking sound asked x run k
-FitsState sound before asked own (state.Committing again run) k = IsCommitting before asked again run k
+FitsState sound before asked own (state.Committing again run) k = IsCommitting sound before asked again run k
 FitsState sound before asked own (state.Counting name run) k = IsCounting asked name run k
 FitsState sound before asked own (state.Ordering run) k = IsOrdering asked run
 

@@ -486,7 +486,7 @@ fn select<'a, S: Steps>(
     requires { (before : ℕ) × (own : List Act) × FitsItem S.sound before asked own (ItemState.Selecting statement run) (S.known s.old) }
     ensures turns { (before : ℕ) → (own : List Act) → FitsItem S.sound before asked.entry own (ItemState.Selecting statement run) (S.known s.old) → ItemTurns S.sound before asked.entry own (S.known s.old) (S.known s.new) result }
     ensures scans { IsSelectThen run result (λ q. ScansTo S.sound run (S.known s.old) (S.known s.new) q) }
-    ensures looks { (S.known s.old).alone ≡ true → IsByIndex run.scan.state → IsSelectThen run result (λ q. Looks S.sound run.scan.state (S.known s.old) (S.looked s.old) q (S.known s.new) (S.looked s.new)) }
+    ensures looks { (S.known s.old).alone ≡ true → IsByIndex run.scan.state → IsSelectThen run result (λ q. Looks S.sound run.scan.state (S.known s.old) (S.looked s.old) q (S.known s.new) (S.looked s.new) (S.doubtful s.new)) }
     ensures doubts { (S.known s.old).alone ≡ true → S.sound → IsSelectThen run result (λ q. KeepsDoubts run.scan.state (S.known s.old) (S.doubtful s.old) q (S.known s.new) (S.doubtful s.new)) }
     ensures one_call { S.one_call s.old s.new }
 {
@@ -573,7 +573,7 @@ impl<'a> ItemRun<'a> {
 
         // A step of a SELECT is one of its query. What that looks at and repairs is told where nobody else acts.
         ensures scans { IfSelect self.entry.state (λ run. IsSelectThen run result (λ q. ScansTo S.sound run (S.known s.old) (S.known s.new) q)) }
-        ensures looks { (S.known s.old).alone ≡ true → IfSelect self.entry.state (λ run. IsByIndex run.scan.state → IsSelectThen run result (λ q. Looks S.sound run.scan.state (S.known s.old) (S.looked s.old) q (S.known s.new) (S.looked s.new))) }
+        ensures looks { (S.known s.old).alone ≡ true → IfSelect self.entry.state (λ run. IsByIndex run.scan.state → IsSelectThen run result (λ q. Looks S.sound run.scan.state (S.known s.old) (S.looked s.old) q (S.known s.new) (S.looked s.new) (S.doubtful s.new))) }
         ensures doubts { (S.known s.old).alone ≡ true → S.sound → IfSelect self.entry.state (λ run. IsSelectThen run result (λ q. KeepsDoubts run.scan.state (S.known s.old) (S.doubtful s.old) q (S.known s.new) (S.doubtful s.new))) }
         ensures one_call { S.one_call s.old s.new }
     {

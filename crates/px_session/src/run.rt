@@ -232,7 +232,7 @@ impl<'a> SessionRun<'a> {
         ensures over { IsOverAt result self.new.ending }
         ensures calls { makes_call result ≡ true }
         ensures scans { IfSelect run.entry.state (λ x. IsSelectingThen x self.new.doing (λ q. ScansTo S.sound x (S.known s.old) (S.known s.new) q)) }
-        ensures looks { (S.known s.old).alone ≡ true → IfSelect run.entry.state (λ x. IsByIndex x.scan.state → IsSelectingThen x self.new.doing (λ q. Looks S.sound x.scan.state (S.known s.old) (S.looked s.old) q (S.known s.new) (S.looked s.new))) }
+        ensures looks { (S.known s.old).alone ≡ true → IfSelect run.entry.state (λ x. IsByIndex x.scan.state → IsSelectingThen x self.new.doing (λ q. Looks S.sound x.scan.state (S.known s.old) (S.looked s.old) q (S.known s.new) (S.looked s.new) (S.doubtful s.new))) }
         ensures doubts { (S.known s.old).alone ≡ true → S.sound → IfSelect run.entry.state (λ x. IsSelectingThen x self.new.doing (λ q. KeepsDoubts x.scan.state (S.known s.old) (S.doubtful s.old) q (S.known s.new) (S.doubtful s.new))) }
         ensures one_call { S.one_call s.old s.new }
     {
@@ -263,7 +263,7 @@ impl<'a> SessionRun<'a> {
         ensures steps { (began : States) → IsSessionLive S.sound (S.known s.old) began self.old → StepsOn S.sound began (S.known s.old) self.old (S.known s.new) self.new }
         ensures over { IsOverAt result self.new.ending }
         ensures scans { IfSelecting self.old.doing (λ run. IsSelectingThen run self.new.doing (λ q. ScansTo S.sound run (S.known s.old) (S.known s.new) q)) }
-        ensures looks { (S.known s.old).alone ≡ true → IfSelecting self.old.doing (λ run. IsByIndex run.scan.state → IsSelectingThen run self.new.doing (λ q. Looks S.sound run.scan.state (S.known s.old) (S.looked s.old) q (S.known s.new) (S.looked s.new))) }
+        ensures looks { (S.known s.old).alone ≡ true → IfSelecting self.old.doing (λ run. IsByIndex run.scan.state → IsSelectingThen run self.new.doing (λ q. Looks S.sound run.scan.state (S.known s.old) (S.looked s.old) q (S.known s.new) (S.looked s.new) (S.doubtful s.new))) }
         ensures doubts { (S.known s.old).alone ≡ true → S.sound → IfSelecting self.old.doing (λ run. IsSelectingThen run self.new.doing (λ q. KeepsDoubts run.scan.state (S.known s.old) (S.doubtful s.old) q (S.known s.new) (S.doubtful s.new))) }
         ensures one_call { makes_call result ≡ true → S.one_call s.old s.new }
         ensures no_call { makes_call result ≡ false → s.new ≡ s.old }

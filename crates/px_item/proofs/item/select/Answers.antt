@@ -40,7 +40,7 @@ pub returns-in-Waiting-clause-looks : goal.returns-in-Waiting-clause-looks
 returns-in-Waiting-clause-looks g c = λ alone by_index. let e = c.in-Waiting.ensures in (e.planned, e.scn, e.looks alone by_index)
 
 pub returns-in-Over-clause-looks : goal.returns-in-Over-clause-looks
-returns-in-Over-clause-looks g c = λ alone by_index. let e = c.in-Over.ensures in looks_to_end g.S.Steps.sound c.args.run.scan.state _ _ c.step.new.self.scan.state _ _ e.turns.told.0 (e.looks alone by_index)
+returns-in-Over-clause-looks g c = λ alone by_index. let e = c.in-Over.ensures in looks_to_end g.S.Steps.sound c.args.run.scan.state _ _ c.step.new.self.scan.state _ _ _ e.turns.told.0 (e.looks alone by_index)
 
 pub returns-in-Stepped-clause-doubts : goal.returns-in-Stepped-clause-doubts
 returns-in-Stepped-clause-doubts g c = λ alone sound. let e = c.in-Stepped.ensures in (e.planned, e.scn, e.doubts alone sound)

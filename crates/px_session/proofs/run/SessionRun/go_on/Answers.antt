@@ -38,7 +38,7 @@ returns-in-Stepped-clause-scans g c =
 
 pub returns-in-Stepped-clause-looks : goal.returns-in-Stepped-clause-looks
 returns-in-Stepped-clause-looks g c = λ alone.
-    under_if (λ x. IsByIndex x.scan.state) (λ x q. Looks g.S.Steps.sound x.scan.state (g.S.Steps.known c.args.s.now) (g.S.Steps.looked c.args.s.now) q (g.S.Steps.known c.step.new.s) (g.S.Steps.looked c.step.new.s))
+    under_if (λ x. IsByIndex x.scan.state) (λ x q. Looks g.S.Steps.sound x.scan.state (g.S.Steps.known c.args.s.now) (g.S.Steps.looked c.args.s.now) q (g.S.Steps.known c.step.new.s) (g.S.Steps.looked c.step.new.s) (g.S.Steps.doubtful c.step.new.s))
     c.args.run.state c.in-Stepped.run' c.args.span c.set_doing.new.self.doing (ap (λ (r : SessionRun). r.doing) c.set_doing.ensures) (c.in-Stepped.ensures.looks alone)
 
 pub returns-in-Stepped-clause-doubts : goal.returns-in-Stepped-clause-doubts
@@ -53,7 +53,7 @@ returns-in-Waiting-clause-scans g c =
 
 pub returns-in-Waiting-clause-looks : goal.returns-in-Waiting-clause-looks
 returns-in-Waiting-clause-looks g c = λ alone.
-    under_if (λ x. IsByIndex x.scan.state) (λ x q. Looks g.S.Steps.sound x.scan.state (g.S.Steps.known c.args.s.now) (g.S.Steps.looked c.args.s.now) q (g.S.Steps.known c.step.new.s) (g.S.Steps.looked c.step.new.s))
+    under_if (λ x. IsByIndex x.scan.state) (λ x q. Looks g.S.Steps.sound x.scan.state (g.S.Steps.known c.args.s.now) (g.S.Steps.looked c.args.s.now) q (g.S.Steps.known c.step.new.s) (g.S.Steps.looked c.step.new.s) (g.S.Steps.doubtful c.step.new.s))
     c.args.run.state c.in-Waiting.run' c.args.span c.set_doing-in-Waiting.new.self.doing (ap (λ (r : SessionRun). r.doing) c.set_doing-in-Waiting.ensures) (c.in-Waiting.ensures.looks alone)
 
 pub returns-in-Waiting-clause-doubts : goal.returns-in-Waiting-clause-doubts
@@ -68,7 +68,7 @@ returns-in-Over-clause-scans g c =
 
 pub returns-in-Over-clause-looks : goal.returns-in-Over-clause-looks
 returns-in-Over-clause-looks g c = λ alone.
-    idle_if (λ x. IsByIndex x.scan.state) (λ x q. Looks g.S.Steps.sound x.scan.state (g.S.Steps.known c.args.s.now) (g.S.Steps.looked c.args.s.now) q (g.S.Steps.known c.step.new.s) (g.S.Steps.looked c.step.new.s))
+    idle_if (λ x. IsByIndex x.scan.state) (λ x q. Looks g.S.Steps.sound x.scan.state (g.S.Steps.known c.args.s.now) (g.S.Steps.looked c.args.s.now) q (g.S.Steps.known c.step.new.s) (g.S.Steps.looked c.step.new.s) (g.S.Steps.doubtful c.step.new.s))
     c.args.run.state _ c.push.new.self.doing c.push.ensures.doing (c.in-Over.ensures.looks alone)
 
 pub returns-in-Over-clause-doubts : goal.returns-in-Over-clause-doubts
