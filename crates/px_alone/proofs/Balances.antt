@@ -38,12 +38,12 @@ nothing own e = subst IsBalanced (sym e) balanced-none
 found : (sound : Type 0) (p : Planned) (k : Known) (first : ℕ) (acts : List Act) (cs : List Change) → deleting.HasFoundRows sound p k first acts cs → IsBalanced acts
 found sound p k first acts cs h = subst IsBalanced (sym h.outcome.1) (balanced-point _ _ _)
 
-made : (k : Known) (t : TableId) (parts : List (List Change)) (rs : List Receipt) (acts : List Act) → deleting.AreMade k t parts rs acts → IsBalanced acts
-made k t [] [] acts m = subst IsBalanced (sym m) balanced-none
-made k t [] (r ∷ rs) acts m = absurd m
-made k t (cs ∷ parts) [] acts m = absurd m
-made k t (cs ∷ parts) (r ∷ rs) acts m =
-    subst IsBalanced (sym m.2) (balanced-append m.0 m.1 (subst IsBalanced (sym m.3.ended.one) (balanced-batch t r.stamp cs)) (made k t parts rs m.1 m.4))
+made : (sound : Type 0) (k : Known) (t : TableId) (parts : List (List Change)) (rs : List Receipt) (acts : List Act) → deleting.AreMade sound k t parts rs acts → IsBalanced acts
+made sound k t [] [] acts m = subst IsBalanced (sym m) balanced-none
+made sound k t [] (r ∷ rs) acts m = absurd m
+made sound k t (cs ∷ parts) [] acts m = absurd m
+made sound k t (cs ∷ parts) (r ∷ rs) acts m =
+    subst IsBalanced (sym m.2) (balanced-append m.0 m.1 (subst IsBalanced (sym m.3.ended.one) (balanced-batch t r.stamp cs)) (made sound k t parts rs m.1 m.4))
 
 tries : (t : TableId) (i : IndexId) (last own : List Act) → building.TriesThen t i last own → IsBalanced last → IsBalanced own
 tries t i last own h b = subst IsBalanced (sym h.1) (balanced-append (building.acts_of_tries t i h.0) last (balanced-tries t i h.0) b)
@@ -100,10 +100,10 @@ balanced-form sound k before own st p a q (right.is_index_absent i f read scn bo
 balanced-form sound k before own st p a q (right.is_selected y f x r read bound asked outcome shows) = subst IsBalanced (sym outcome.1) (balanced-point _ _ _)
 balanced-form sound k before own st p a q (right.is_not_selected y f x fault read bound asked outcome since says) = point (query_of x) own outcome.1
 balanced-form sound k before own st p a q (right.is_deleted x f m read scn on bound fits h first says) =
-    subst IsBalanced (sym h.own_is) (balanced-append h.finding h.making (found sound (right.deletion_query f x) k m.first h.finding h.changes h.found) (made k f.table.id h.parts a.receipts h.making h.made))
+    subst IsBalanced (sym h.own_is) (balanced-append h.finding h.making (found sound (right.deletion_query f x) k m.first h.finding h.changes h.found) (made sound k f.table.id h.parts a.receipts h.making h.made))
 balanced-form sound k before own st p a q (right.is_not_deleted x f fault read scn on bound fits h since stops says) =
     subst IsBalanced (sym h.own_is) (balanced-append h.finding (h.making ++ h.stopping) (found sound (right.deletion_query f x) k h.first h.finding h.changes h.found)
-    (balanced-append h.making h.stopping (made k f.table.id h.parts a.receipts h.making h.made) (left_by x.table f.table.id (take 1000 h.rest) fault h.stopping k a.reply h.outcome.1 stops q)))
+    (balanced-append h.making h.stopping (made sound k f.table.id h.parts a.receipts h.making h.made) (left_by x.table f.table.id (take 1000 h.rest) fault h.stopping k a.reply h.outcome.1 stops q)))
 balanced-form sound k before own st p a q (right.is_not_found x f fault read scn bound fits outcome since says) = point (query_of (right.deletion_query f x)) own outcome.1
 balanced-form sound k before own st p a q (right.are_held x f first cs st' read scn off bound fits h from holding says) = found sound (right.deletion_query f x) k first own cs h
 balanced-form sound k before own st p a q (right.are_too_many x f first cs read scn off bound fits h from many says) = found sound (right.deletion_query f x) k first own cs h

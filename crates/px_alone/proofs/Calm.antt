@@ -55,6 +55,13 @@ calm-tables b pre more calm =
     tables-append b pre more ∙ (rises-last x (acts_of more) ∙ ap (λ (acts : List Act). after_all (after_all x acts) (rises_in (acts_of more))) calm) in
     e ∙ (only_rises x (acts_of more) ∙ ap (λ (y : Tables). with_horizon x y.horizon) (sym e))
 
+-- what stands behind some entries, by what they change
+pub changed-tables : (b : Base) (pre more : List Entry) → tables_at b (pre ++ more) ≡ with_horizon (after_all (tables_at b pre) (changes_in (acts_of more))) (λ t. horizon_of b t (pre ++ more))
+changed-tables b pre more =
+    let y : Tables = after_all (tables_at b pre) (changes_in (acts_of more)) in
+    let e : tables_at b (pre ++ more) ≡ after_all y (rises_in (acts_of more)) = tables-append b pre more ∙ rises-last (tables_at b pre) (acts_of more) in
+    e ∙ (only_rises y (acts_of more) ∙ ap (λ (z : Tables). with_horizon y z.horizon) (sym e))
+
 -- 2. Parts of such entries
 
 no_first : (a : Act) (l : List Act) → a ∷ l ≡ [] → ⊥

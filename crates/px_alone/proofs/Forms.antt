@@ -1,5 +1,5 @@
 -- Each form of a right answer is one of the fold, where nobody else acts.
-use Rattle.std.proofs.Common.{bytes_eq, ℕ, ◌≡◌, ◌↔◌, ◌<◌, ◌≤◌, ◌+◌, ◌-◌, ◌⊎◌, if◌then◌else◌, Bool, true, false, Option, None, Some, List, [], ◌∷◌, ◌++◌, length, min, take, Ok, refl, sym, ◌∙◌, ap, subst, arith, append_assoc, inl, inr}
+use Rattle.std.proofs.Common.{bytes_eq, ℕ, ◌≡◌, ◌↔◌, ◌<◌, ◌≤◌, ◌+◌, ◌-◌, ◌⊎◌, if◌then◌else◌, Bool, true, false, Option, None, Some, IsSome, List, [], ◌∷◌, ◌++◌, length, min, take, Ok, refl, sym, ◌∙◌, ap, subst, arith, append_assoc, inl, inr}
 use Rattle.std.specs.List.{AllByRecursion}
 use Rattle.px_lex.specs.Script.{SeenPiece}
 use Rattle.px_values.specs.Limits.{most_of}
@@ -34,7 +34,7 @@ use Rattle.px_calls.specs.Causes.{HasName, LacksIndex, LacksTable, RunsOut, batc
 use Rattle.px_batch.specs.Turns as batch
 use Rattle.px_batch.specs.declared.batch.BatchFault.{BatchFault}
 use Rattle.px_batch.specs.declared.batch.BatchFault.TheVariants as unmade
-use Rattle.px_scan.specs.Faults.{QueryFaultIs}
+use Rattle.px_scan.specs.Faults.{IsJoined, QueryEndSince, QueryFaultIs}
 use Rattle.px_scan.specs.Turns.{OpensAndCloses}
 use Rattle.px_scan.specs.declared.answer.QueryFault.{QueryFault}
 use Rattle.px_scan.specs.declared.answer.QueryFault.TheVariants as unread
@@ -58,7 +58,7 @@ use Rattle.px_ast.specs.declared.definition.DropTable.{DropTable}
 use Rattle.px_ast.specs.declared.definition.IndexAction.{IndexAction}
 use Rattle.px_ast.specs.declared.definition.IndexAction.TheVariants.{Disable, Rebuild}
 use Rattle.px_bind.specs.Requests.{faults_in}
-use Rattle.px_create.specs.Indexes.{index_id_named, new_index}
+use Rattle.px_create.specs.Indexes.{index_faults, index_id_named, new_index}
 use Rattle.std.proofs.lemmas.List.{append-nil}
 use Rattle.px_item.specs.Builds.{IsBuiltBehind, altered, to_build}
 use Rattle.px_upkeep.specs.Turns as building
@@ -77,10 +77,11 @@ use Rattle.px_defining.specs.declared.define.DefineFault.TheVariants as undone
 use Rattle.px_reply.specs.declared.reply.Defined.TheVariants as defined
 use Rattle.px_commands.specs.declared.command.Command.TheVariants as commands
 use Rattle.px_held.specs.HeldData.{HeldData}
+use Rattle.px_calls.specs.declared.query.Point.{Point}
 use Rattle.px_calls.specs.Known.{Known, outline}
 use Rattle.px_plan.specs.Asked.{asked_of}
 use Rattle.px_plan.specs.declared.plan.Asked.{Asked as Asks}
-use Rattle.px_planned.specs.Queries.{IsPathTaken, query_of}
+use Rattle.px_planned.specs.Queries.{IsPathTaken, joins_at, query_of}
 use Rattle.px_planned.specs.declared.planned.Planned.{Planned}
 use Rattle.px_answers.specs.Selects.{IsCurrentSelect, IsExactSelect, IsSelectBy, selects}
 use Rattle.px_select.specs.Selecting.{IsSelectAnswer}
@@ -99,6 +100,7 @@ use Rattle.px_alone.specs.Answers.{ComesAlone, IsQueryAnswered}
 use Rattle.px_alone.specs.Answers as comes
 use Rattle.px_alone.specs.Tables.{HasTable, IsKept, Tables, point_stamp, stamp_of}
 use Rattle.px_alone.proofs.Calm.{AreCalm, calm-tables, current-is, exact-is, horizon-then, tables-then, with_horizon}
+use Rattle.px_alone.proofs.Limits.{passes-none, refused-by}
 use Rattle.px_alone.proofs.Finding.{defs-changes, defs_in, finds-at, finds-bound, lacks-at}
 use Rattle.px_alone.proofs.Naming.{All, all-entries, again-all, changes-tries, is_unmade, keeps_names, keeps_tables, names-kept, names-rest, renewed, stamps-again, tables-back, tables-kept, tables-rest, unmade-rest}
 use Rattle.px_alone.proofs.Outcomes.{Quiet, begun-above, does-of, first-change, outcome_by, no-closing, no-device, no-memory, outcome_of, quiet-by, stamps_in, tells-of}
@@ -241,6 +243,15 @@ module _ (sound : Type 0) (is_sound : sound) (b : Base) (pre more : List Entry) 
           rising = h.rising;
         }
 
+    -- the stamp of a point at which a query was opened, where nothing had changed
+    stamp_then : (scn : Option ℕ) (m t : ℕ) → AreCalm more → length pre ≤ m → stamp_at scn t b (take m (pre ++ more)) ≡ point_stamp x t scn
+    stamp_then None m t calm from = ap (λ (y : Tables). y.last t) (tables-then b pre more legal done calm m from)
+    stamp_then (Some scn) m t calm from = ap (λ (y : Tables). min (scn - 1) (y.last t)) (tables-then b pre more legal done calm m from)
+
+    kept_then : (scn : Option ℕ) (m t stamp : ℕ) → AreCalm more → length pre ≤ m → horizon_of b t (take m (pre ++ more)) ≤ stamp → stamp ≡ stamp_at scn t b (take m (pre ++ more)) → IsKept x t scn
+    kept_then None m t stamp calm from low at = tt
+    kept_then (Some scn) m t stamp calm from low at = (let up = horizon-then b pre more legal done calm m t from in omega arith)
+
     opened_calm : (q : Rattle.px_gather.specs.Query.Query) → OpensAndCloses q own → changes_in own ≡ []
     opened_calm q h = ap changes_in h.2
 
@@ -262,26 +273,39 @@ module _ (sound : Type 0) (is_sound : sound) (b : Base) (pre more : List Entry) 
                 (says (refusal.BelowHorizon (horizon_of b f.table.id.0 (pre ++ more))) (told ∙ ap (λ (m : ℕ). reply.Refused (refusal.BelowHorizon m)) (sym at))),
           )
 
-      not_selected : (q : Select) (f : Found) (y : Rattle.px_gather.specs.Query.Query) (why : QueryFault) → y.table ≡ f.table.id.0 → QueryFaultIs sound y st.scn why k → right.IsReadItem p (Ok (s.Select q)) → HasTable x f q.table → select_faults f.table.columns q ≡ [] → a.reply ≡ reply.Refused (right.query_refusal q.table why) → Folds st p own a
-      not_selected q f y unread.NoTable e is read finds fits told = stands_then f q.table none finds (subst (LacksTable k) e is)
-      not_selected q f y (unread.BelowHorizon h) e is read finds fits told = below q f st.scn h y e refl is read finds fits told
-      not_selected q f y unread.IndexJoin e is read finds fits told = absurd (quiet-by a.reply _ told own_cause)
-      not_selected q f y unread.ReadFault e is read finds fits told = no-device (quiet-by a.reply _ told own_cause)
-      not_selected q f y unread.WriteFault e is read finds fits told = no-closing (quiet-by a.reply _ told own_cause)
-      not_selected q f y (unread.Damaged file place) e is read finds fits told = no-device (quiet-by a.reply _ told own_cause)
-      not_selected q f y (unread.Closed call) e is read finds fits told = no-closing (quiet-by a.reply _ told own_cause)
-      not_selected q f y unread.Memory e is read finds fits told = no-memory (quiet-by a.reply _ told own_cause)
+      -- no path holds what is asked for: the table's definitions at its point are those that stood
+      joined : (q : Select) (f : Found) (z : Planned) (n : ℕ) → length pre ≤ n → right.IsAskedOf f q z → IsJoined n (query_of z) st.scn k → right.IsReadItem p (Ok (s.Select q)) → HasTable x f q.table → a.reply ≡ reply.Refused refusal.IndexJoin → Folds st p own a
+      joined q f z n low asked j read finds told =
+          let query : Query = asked.1.0 in
+          let mine : IsJoined n (query_of (record { table = f.table; asked = asked_of query })) st.scn k = subst (λ (w : Planned). IsJoined n (query_of w) st.scn k) asked.1.2 j in
+          let at : Point = mine.point in
+          let calm : AreCalm more = calm_by none in
+          let from : length pre ≤ at.found.at = (let l = mine.from in omega arith) in
+          let found : HasTable x at.found at.found.table.name = finds-at b pre more (defs_by (ap defs_in none)) at.found.at at.found at.found.table.name from mine.is_point.found refl in
+          let same : at.found.table ≡ f.table = same_table at.found f at.found.table.name q.table found finds (ap (λ (t : TableId). t.0) mine.is_point.found_table ∙ mine.is_point.table) in
+          let stamp : at.stamp ≡ point_stamp x f.table.id.0 st.scn = mine.is_point.stamp ∙ stamp_then st.scn at.found.at f.table.id.0 calm from in
+          inl (comes.is_joined q at.found query read
+          (record { table = found.table; named = ap (λ (t : Table). t.name) same ∙ finds.named; indexes = found.indexes; rising = found.rising })
+          (subst (λ (t : Table). select_faults t.columns q ≡ []) (sym same) asked.0)
+          (subst (λ (t : Table). IsQuery t q query) (sym same) asked.1.1)
+          (subst (λ (t : Table). IsKept x t.id.0 st.scn) (sym same) (kept_then st.scn at.found.at f.table.id.0 at.stamp calm from mine.is_point.low mine.is_point.stamp))
+          (subst (λ (m : ℕ). joins_at (asked_of query) at.found m ≡ true) (stamp ∙ ap (λ (t : Table). point_stamp x t.id.0 st.scn) (sym same)) mine.joins)
+          (says refusal.IndexJoin told))
 
-    -- a batch that isn't made
-    pub of_batch : (sound : Type 0) (t : ℕ) (cs : List Change) (which : Limit) → batch_limit sound t cs which k → comes.IsOfBatch which
-    of_batch sound t cs bound.Key h = tt
-    of_batch sound t cs bound.Cells h = tt
-    of_batch sound t cs bound.Bytes h = tt
-    of_batch sound t cs bound.Stamps h = tt
-    of_batch sound t cs bound.Trail h = tt
-    of_batch sound t cs bound.Log h = tt
-    of_batch sound t cs bound.Region h = tt
-    of_batch sound t cs which h = absurd h
+      not_selected : (q : Select) (f : Found) (z : Planned) (n : ℕ) (why : QueryFault) → length pre ≤ n → right.IsAskedOf f q z → QueryFaultIs sound (query_of z) st.scn why k → QueryEndSince n (query_of z) st.scn why k → right.IsReadItem p (Ok (s.Select q)) → HasTable x f q.table
+          → a.reply ≡ reply.Refused (right.query_refusal q.table why) → Folds st p own a
+      not_selected q f z n unread.NoTable low asked is since read finds told = stands_then f q.table none finds (subst (LacksTable k) (ap (λ (w : Planned). w.table.id.0) asked.1.2) is)
+      not_selected q f z n (unread.BelowHorizon h) low asked is since read finds told = below q f st.scn h (query_of z) (ap (λ (w : Planned). w.table.id.0) asked.1.2) refl is read finds asked.0 told
+      not_selected q f z n unread.IndexJoin low asked is since read finds told = joined q f z n low asked since read finds told
+      not_selected q f z n unread.ReadFault low asked is since read finds told = no-device (quiet-by a.reply _ told own_cause)
+      not_selected q f z n unread.WriteFault low asked is since read finds told = no-closing (quiet-by a.reply _ told own_cause)
+      not_selected q f z n (unread.Damaged file place) low asked is since read finds told = no-device (quiet-by a.reply _ told own_cause)
+      not_selected q f z n (unread.Closed call) low asked is since read finds told = no-closing (quiet-by a.reply _ told own_cause)
+      not_selected q f z n unread.Memory low asked is since read finds told = no-memory (quiet-by a.reply _ told own_cause)
+
+    -- a batch that isn't made: why it is refused, by the tables as they stood
+    of_batch : (t : ℕ) (cs : List Change) (which : Limit) → changes_in own ≡ [] → batch_limit sound t cs which k → comes.IsOfBatch x t cs which
+    of_batch t cs which none h = refused-by sound is_sound k x (λ u. horizon_of b u (pre ++ more)) (calm_then none) t cs which h
 
     left_calm : (t : TableId) (cs : List Change) (why : BatchFault) → batch.HasLeft t cs why own k → (batch.IsStopping why → ⊥) → own ≡ []
     left_calm t cs why (inl e) go = e
@@ -294,7 +318,7 @@ module _ (sound : Type 0) (is_sound : sound) (b : Base) (pre more : List Entry) 
         stands_then f u.table (ap changes_in e) (finds a.first f u.table (ap (λ (l : List Act). defs_in (changes_in l)) e) from h) is
     not_changed st p a u f (unmade.Limit which count) q read scn on from h fits is left told =
         let e : own ≡ [] = left_calm _ _ (unmade.Limit which count) left (λ z. z) in
-        inl (comes.is_limited u f which read scn on (finds a.first f u.table (ap (λ (l : List Act). defs_in (changes_in l)) e) from h) fits (of_batch sound f.table.id.0 (right.one_change f u) which is.2) (tells-of own a _ st (ap changes_in e) told.0 told.3))
+        inl (comes.is_limited u f which read scn on (finds a.first f u.table (ap (λ (l : List Act). defs_in (changes_in l)) e) from h) fits (of_batch f.table.id.0 (right.one_change f u) which (ap changes_in e) is.2) (tells-of own a _ st (ap changes_in e) told.0 told.3))
     not_changed st p a u f unmade.ReadFault q read scn on from h fits is left told = no-device (quiet-by a.reply _ told.0 q)
     not_changed st p a u f unmade.WriteFault q read scn on from h fits is left told = no-closing (quiet-by a.reply _ told.0 q)
     not_changed st p a u f (unmade.Damaged file place) q read scn on from h fits is left told = no-device (quiet-by a.reply _ told.0 q)
@@ -306,10 +330,26 @@ module _ (sound : Type 0) (is_sound : sound) (b : Base) (pre more : List Entry) 
     unfolding IsAmong
     drawn t stamp cs one = begun-above b pre more t stamp cs legal (subst (IsAmong (Begun t stamp cs)) (sym (changes_are ∙ ap changes_in one)) (inl refl))
 
+    -- and its table stood
+    stood : (t : TableId) (stamp : ℕ) (cs : List Change) → own ≡ Begun t stamp cs ∷ Ended t stamp ∷ [] → IsSome (x.catalogue.tables t.0)
+    unfolding Follows
+    stood t stamp cs one =
+        let z = first-change more (Begun t stamp cs) [] (changes_are ∙ ap changes_in one) in
+        let cut : pre ++ more ≡ (pre ++ z.front) ++ z.entry ∷ z.rest = ap (λ (m : List Entry). pre ++ m) z.is ∙ sym (append_assoc pre z.front (z.entry ∷ z.rest)) in
+        let f : Follows b (pre ++ z.front) z.entry.seat z.entry.calls (Begun t stamp cs) = subst (Follows b (pre ++ z.front) z.entry.seat z.entry.calls) z.act_is (legal.each (pre ++ z.front) z.entry z.rest cut).follows in
+        subst (λ (y : Tables). IsSome (y.catalogue.tables t.0)) (calm-tables b pre z.front z.calm) f.3
+
+    -- it passes no limit
+    kept_none : (t : TableId) (stamp : ℕ) (cs : List Change) → own ≡ Begun t stamp cs ∷ Ended t stamp ∷ [] → batch.KeptWithin sound b (pre ++ more) t cs stamp → comes.PassesNoLimit x t.0 cs
+    kept_none t stamp cs one w =
+        let z = first-change more (Begun t stamp cs) [] (changes_are ∙ ap changes_in one) in
+        let cut : pre ++ more ≡ (pre ++ z.front) ++ z.entry ∷ z.rest = ap (λ (m : List Entry). pre ++ m) z.is ∙ sym (append_assoc pre z.front (z.entry ∷ z.rest)) in
+        passes-none sound is_sound b pre more t cs stamp z.front z.rest z.entry legal cut z.act_is z.calm w
+
     changed : (st : Settings) (p : SeenPiece) (a : Answered) (u : Upsert) (f : Found) (stamp : ℕ) → right.IsReadItem p (Ok (s.Upsert u)) → st.scn ≡ None → st.autocommit ≡ true → length pre ≤ a.first → IsBoundTo b (pre ++ more) a.first f u.table → upsert_faults f.table u ≡ []
-        → own ≡ Begun f.table.id stamp (right.one_change f u) ∷ Ended f.table.id stamp ∷ [] → a.reply ≡ reply.Count 1 Affected → a.after ≡ next_is.Next st → Folds st p own a
-    changed st p a u f stamp read scn on from h fits one told still =
-        inl (comes.is_changed u f stamp read scn on (finds a.first f u.table (ap (λ (l : List Act). defs_in (changes_in l)) one) from h) fits (drawn f.table.id stamp (right.one_change f u) one) (does-of own a f.table.id stamp (right.one_change f u) (reply.Count 1 Affected) (next_is.Next st) one told still))
+        → own ≡ Begun f.table.id stamp (right.one_change f u) ∷ Ended f.table.id stamp ∷ [] → batch.KeptWithin sound b (pre ++ more) f.table.id (right.one_change f u) stamp → a.reply ≡ reply.Count 1 Affected → a.after ≡ next_is.Next st → Folds st p own a
+    changed st p a u f stamp read scn on from h fits one kept told still =
+        inl (comes.is_changed u f stamp read scn on (finds a.first f u.table (ap (λ (l : List Act). defs_in (changes_in l)) one) from h) fits (drawn f.table.id stamp (right.one_change f u) one) (kept_none f.table.id stamp (right.one_change f u) one kept) (does-of own a f.table.id stamp (right.one_change f u) (reply.Count 1 Affected) (next_is.Next st) one told still))
 
     -- 4. Held changes
 
@@ -323,9 +363,9 @@ module _ (sound : Type 0) (is_sound : sound) (b : Base) (pre more : List Entry) 
     asks first st p h false none from e = e
 
     committed : (st : Settings) (p : SeenPiece) (a : Answered) (h : HeldData) (again : Bool) (stamp : ℕ) → st.held ≡ Some h → length pre ≤ a.first → right.AsksToCommit k a.first st p h again → own ≡ Begun h.table stamp h.changes ∷ Ended h.table stamp ∷ []
-        → a.reply ≡ reply.Count (length h.changes) Affected → a.after ≡ right.after_commit again (right.emptied st) → Folds st p own a
-    committed st p a h again stamp held from asked one told behind =
-        inl (comes.is_committed again h stamp held (asks a.first st p h again (ap (λ (l : List Act). defs_in (changes_in l)) one) from asked) (drawn h.table stamp h.changes one)
+        → batch.KeptWithin sound b (pre ++ more) h.table h.changes stamp → a.reply ≡ reply.Count (length h.changes) Affected → a.after ≡ right.after_commit again (right.emptied st) → Folds st p own a
+    committed st p a h again stamp held from asked one kept told behind =
+        inl (comes.is_committed again h stamp held (asks a.first st p h again (ap (λ (l : List Act). defs_in (changes_in l)) one) from asked) (stood h.table stamp h.changes one) (drawn h.table stamp h.changes one) (kept_none h.table stamp h.changes one kept)
         (does-of own a h.table stamp h.changes (reply.Count (length h.changes) Affected) (right.after_commit again (right.emptied st)) one told behind))
 
     gone_then : (h : HeldData) → changes_in own ≡ [] → commits.IsGone k h → comes.IsTableGone x h
@@ -341,7 +381,7 @@ module _ (sound : Type 0) (is_sound : sound) (b : Base) (pre more : List Entry) 
         inl (comes.is_gone again h held (asks a.first st p h again (no_defs e) from asked) (gone_then h (ap changes_in e) is) (tells-of own a _ (right.emptied st) (ap changes_in e) told behind))
     not_committed st p a h again (unmade.Limit which count) q held from asked is left (inl told) behind =
         let e : own ≡ [] = left_calm _ _ (unmade.Limit which count) left (λ z. z) in
-        inl (comes.is_not_committed again h which held (asks a.first st p h again (no_defs e) from asked) (of_batch sound h.table.0 h.changes which is.2) (tells-of own a _ (right.emptied st) (ap changes_in e) told behind))
+        inl (comes.is_not_committed again h which held (asks a.first st p h again (no_defs e) from asked) (subst (λ (c : Catalogue). IsSome (c.tables h.table.0)) (catalogue_then (ap changes_in e)) is.0) (of_batch h.table.0 h.changes which (ap changes_in e) is.2) (tells-of own a _ (right.emptied st) (ap changes_in e) told behind))
     not_committed st p a h again unmade.ReadFault q held from asked is left (inl told) behind = no-device (quiet-by a.reply _ told q)
     not_committed st p a h again unmade.WriteFault q held from asked is left (inl told) behind = no-closing (quiet-by a.reply _ told q)
     not_committed st p a h again (unmade.Damaged file place) q held from asked is left (inl told) behind = no-device (quiet-by a.reply _ told q)
@@ -418,10 +458,10 @@ module _ (sound : Type 0) (is_sound : sound) (b : Base) (pre more : List Entry) 
     -- the numbers and the stamp that the first definition takes
     takes_next : (e : Definition) (m : Made) (l : List Act) → changes_in own ≡ calls.act_of e m ∷ l → comes.TakesNext x e m
     unfolding Follows MayState
-    takes_next (d.Table what) m l h = let z = first_act (calls.act_of (d.Table what) m) l h in z.follows.0 ∙ ap (λ (c : Catalogue). c.next + length what.least_keys) z.same
+    takes_next (d.Table what) m l h = let z = first_act (calls.act_of (d.Table what) m) l h in (subst (λ (c : Catalogue). IsFreeName c what.name) z.same z.follows.1, z.follows.0 ∙ ap (λ (c : Catalogue). c.next + length what.least_keys) z.same)
     takes_next (d.Index what) m l h =
         let z = first_act (calls.act_of (d.Index what) m) l h in
-        (z.follows.0 ∙ ap (λ (c : Catalogue). c.next + 1) z.same, subst (λ (n : ℕ). n < m.stamp) (z.last what.table.0) z.follows.4)
+        (subst (λ (c : Catalogue). IsFreeName c what.name) z.same z.follows.1, z.follows.0 ∙ ap (λ (c : Catalogue). c.next + 1) z.same, subst (λ (n : ℕ). n < m.stamp) (z.last what.table.0) z.follows.4)
     takes_next (d.Rebuilding t i) m l h =
         let z = first_act (calls.act_of (d.Rebuilding t i) m) l h in subst (λ (n : ℕ). n < m.stamp) (z.last t.0) z.follows.1.0
     takes_next (d.Active t i) m l h = tt
@@ -431,11 +471,9 @@ module _ (sound : Type 0) (is_sound : sound) (b : Base) (pre more : List Entry) 
 
     created : (st : Settings) (p : SeenPiece) (a : Answered) (t : CreateTable) (m : Made) → right.IsReadItem p (Ok (s.CreateTable t)) → right.is_none_of t.splits ≡ true → st.scn ≡ None → table_faults t ≡ [] → define.HasDefined (d.Table (new_table t)) own k m
         → right.SaysOnly a (reply.Defined defined.TableCreated) st → Folds st p own a
-    unfolding Follows
     created st p a t m read one scn fits made told =
         let only : changes_in own ≡ calls.act_of (d.Table (new_table t)) m ∷ [] = ap changes_in made.one in
-        let z = first_act (calls.act_of (d.Table (new_table t)) m) [] only in
-        inl (comes.is_created t m read one scn fits (subst (λ (c : Catalogue). IsFreeName c t.name) z.same z.follows.1) made.made (takes_next (d.Table (new_table t)) m [] only)
+        inl (comes.is_defined (s.CreateTable t) (d.Table (new_table t)) m read scn (one, fits, refl) refl made.made (takes_next (d.Table (new_table t)) m [] only)
         (λ i. outcome_by (only i) (told.0 i) (told.3 i)))
 
     name_then : (name : List ℕ) → own ≡ [] → HasName (catalogue_of b (pre ++ more)) name → HasName x.catalogue name
@@ -447,21 +485,23 @@ module _ (sound : Type 0) (is_sound : sound) (b : Base) (pre more : List Entry) 
     runs_out : (n : ℕ) → own ≡ [] → RunsOut k n → comes.RunsOutIn x n
     runs_out n none h = subst (λ (c : Catalogue). most_of bound.Ids + 1 < c.next + n) (catalogue_then (ap changes_in none)) h
 
-    of_table_limit : (t : CreateTable) (which : Limit) (count : ℕ) → own ≡ [] → new_table_cause (new_table t) (step.Limit which count) k → comes.IsOfDefinition x (s.CreateTable t) which
+    of_table_limit : (t : CreateTable) (which : Limit) (count : ℕ) → own ≡ [] → new_table_cause (new_table t) (step.Limit which count) k → comes.IsOfDefinition x (d.Table (new_table t)) which
     of_table_limit t bound.Tables count none h = subst (λ (c : Catalogue). most_of bound.Tables ≤ count_below c.tables c.next) (catalogue_then (ap changes_in none)) h.1
     of_table_limit t bound.Ids count none h = runs_out (length (new_table t).least_keys + 1) none h.1
     of_table_limit t which count none h = absurd h
 
-    not_created : (st : Settings) (p : SeenPiece) (a : Answered) (t : CreateTable) (why : DefineFault) → Quiet a.reply → right.IsReadItem p (Ok (s.CreateTable t)) → st.scn ≡ None → define.DefinitionFaultIs sound (d.Table (new_table t)) why k → own ≡ [] → right.SaysOnly a (right.undefined (s.CreateTable t) why) st → Folds st p own a
-    not_created st p a t undone.NameExists q read scn is none told = inl (comes.is_taken (s.CreateTable t) t.name read scn refl (name_then t.name none is) (tells-of own a _ st (ap changes_in none) told.0 told.3))
-    not_created st p a t (undone.Limit which count) q read scn is none told = inl (comes.is_not_defined (s.CreateTable t) which read scn (of_table_limit t which count none is) (tells-of own a _ st (ap changes_in none) told.0 told.3))
-    not_created st p a t undone.NoTable q read scn is none told = absurd is
-    not_created st p a t undone.NoIndex q read scn is none told = absurd is
-    not_created st p a t undone.ReadFault q read scn is none told = no-device (quiet-by a.reply _ told.0 q)
-    not_created st p a t undone.WriteFault q read scn is none told = no-closing (quiet-by a.reply _ told.0 q)
-    not_created st p a t (undone.Damaged file place) q read scn is none told = no-device (quiet-by a.reply _ told.0 q)
-    not_created st p a t (undone.Closed call) q read scn is none told = no-closing (quiet-by a.reply _ told.0 q)
-    not_created st p a t undone.Memory q read scn is none told = no-memory (quiet-by a.reply _ told.0 q)
+    not_created : (st : Settings) (p : SeenPiece) (a : Answered) (t : CreateTable) (why : DefineFault) → Quiet a.reply → right.IsReadItem p (Ok (s.CreateTable t)) → right.is_none_of t.splits ≡ true → st.scn ≡ None → table_faults t ≡ [] → define.DefinitionFaultIs sound (d.Table (new_table t)) why k → own ≡ []
+        → a.reply ≡ right.undefined (s.CreateTable t) why → a.after ≡ next_is.Next st → Folds st p own a
+    not_created st p a t undone.NameExists q read one scn fits is none told still = inl (comes.is_taken (s.CreateTable t) (d.Table (new_table t)) read scn (one, fits, refl) (name_then t.name none is) (tells-of own a _ st (ap changes_in none) told still))
+    not_created st p a t (undone.Limit which count) q read one scn fits is none told still =
+        inl (comes.is_not_defined (s.CreateTable t) (d.Table (new_table t)) which read scn (one, fits, refl) (of_table_limit t which count none is) (tells-of own a _ st (ap changes_in none) told still))
+    not_created st p a t undone.NoTable q read one scn fits is none told still = absurd is
+    not_created st p a t undone.NoIndex q read one scn fits is none told still = absurd is
+    not_created st p a t undone.ReadFault q read one scn fits is none told still = no-device (quiet-by a.reply _ told q)
+    not_created st p a t undone.WriteFault q read one scn fits is none told still = no-closing (quiet-by a.reply _ told q)
+    not_created st p a t (undone.Damaged file place) q read one scn fits is none told still = no-device (quiet-by a.reply _ told q)
+    not_created st p a t (undone.Closed call) q read one scn fits is none told still = no-closing (quiet-by a.reply _ told q)
+    not_created st p a t undone.Memory q read one scn fits is none told still = no-memory (quiet-by a.reply _ told q)
 
     -- the index of a name among those that were found
     named_index : (is : List Index) (name : List ℕ) (n : IndexId) → index_id_named is name ≡ Some n → (w : Index) × IsAmong w is × (w.id ≡ n) × (w.name ≡ name)
@@ -512,8 +552,8 @@ module _ (sound : Type 0) (is_sound : sound) (b : Base) (pre more : List Entry) 
       index_lacks : {A : Type 0} → (z : Table) (w : Index) (name : List ℕ) → comes.HasIndex x z w name → LacksIndex k z.id.0 w.id.0 → A
       index_lacks z w name h lacks = absurd (lacks.1 w (ap (λ (c : Catalogue). c.indexes w.id.0) (catalogue_then (ap changes_in none)) ∙ h.0) h.1)
 
-      limited : (which : Limit) → comes.IsOfDefinition x y which → a.reply ≡ reply.Refused (refusal.Limit which) → Folds st p own a
-      limited which of told = inl (comes.is_not_defined y which read scn of (tells-of own a _ st (ap changes_in none) told still))
+      limited : (e : Definition) (which : Limit) → comes.AsksFor x y e → comes.IsOfDefinition x e which → a.reply ≡ reply.Refused (refusal.Limit which) → Folds st p own a
+      limited e which asked of told = inl (comes.is_not_defined y e which read scn asked of (tells-of own a _ st (ap changes_in none) told still))
 
       not_dropped : (t : DropTable) (z : Table) (why : DefineFault) → comes.Stands x z t.name → define.DefinitionFaultIs sound (d.DropTable z.id) why k → a.reply ≡ right.undefined (s.DropTable t) why → Folds st p own a
       not_dropped t z undone.NoTable h is told = table_lacks z t.name h is
@@ -526,23 +566,23 @@ module _ (sound : Type 0) (is_sound : sound) (b : Base) (pre more : List Entry) 
       not_dropped t z (undone.Closed call) h is told = no-closing (quiet-by a.reply _ told q)
       not_dropped t z undone.Memory h is told = no-memory (quiet-by a.reply _ told q)
 
-      of_index_limit : (z : Table) (i : CreateIndex) (which : Limit) (count : ℕ) → comes.Stands x z i.table → new_index_cause (new_index z i) (step.Limit which count) k → comes.IsOfDefinition x (s.CreateIndex i) which
-      of_index_limit z i bound.Indexes count at h = (z, at, subst (λ (c : Catalogue). most_of bound.Indexes ≤ count_below (λ n. of_table z.id.0 (c.indexes n)) c.next) (catalogue_then (ap changes_in none)) h.1)
-      of_index_limit z i bound.Stamps count at h = (z, at, last_then z.id.0 none h.1)
-      of_index_limit z i bound.Ids count at h = runs_out 2 none h.1
-      of_index_limit z i which count at h = absurd h
+      of_index_limit : (z : Table) (i : CreateIndex) (which : Limit) (count : ℕ) → new_index_cause (new_index z i) (step.Limit which count) k → comes.IsOfDefinition x (d.Index (new_index z i)) which
+      of_index_limit z i bound.Indexes count h = subst (λ (c : Catalogue). most_of bound.Indexes ≤ count_below (λ n. of_table z.id.0 (c.indexes n)) c.next) (catalogue_then (ap changes_in none)) h.1
+      of_index_limit z i bound.Stamps count h = last_then z.id.0 none h.1
+      of_index_limit z i bound.Ids count h = runs_out 2 none h.1
+      of_index_limit z i which count h = absurd h
 
-      not_made : (i : CreateIndex) (z : Table) (why : DefineFault) → y ≡ s.CreateIndex i → comes.Stands x z i.table → define.DefinitionFaultIs sound (d.Index (new_index z i)) why k → a.reply ≡ right.undefined (s.CreateIndex i) why → Folds st p own a
-      not_made i z undone.NameExists e h is told =
-          inl (comes.is_taken (s.CreateIndex i) i.name (subst (λ (w : Statement). right.IsReadItem p (Ok w)) e read) scn refl (name_then i.name none is) (tells-of own a _ st (ap changes_in none) told still))
-      not_made i z undone.NoTable e h is told = table_lacks z i.table h is
-      not_made i z undone.NoIndex e h is told = absurd is
-      not_made i z (undone.Limit which count) e h is told = limited which (subst (λ (w : Statement). comes.IsOfDefinition x w which) (sym e) (of_index_limit z i which count h is)) told
-      not_made i z undone.ReadFault e h is told = no-device (quiet-by a.reply _ told q)
-      not_made i z undone.WriteFault e h is told = no-closing (quiet-by a.reply _ told q)
-      not_made i z (undone.Damaged file place) e h is told = no-device (quiet-by a.reply _ told q)
-      not_made i z (undone.Closed call) e h is told = no-closing (quiet-by a.reply _ told q)
-      not_made i z undone.Memory e h is told = no-memory (quiet-by a.reply _ told q)
+      not_made : (i : CreateIndex) (z : Table) (why : DefineFault) → y ≡ s.CreateIndex i → comes.Stands x z i.table → index_faults z i ≡ [] → define.DefinitionFaultIs sound (d.Index (new_index z i)) why k → a.reply ≡ right.undefined (s.CreateIndex i) why → Folds st p own a
+      not_made i z undone.NameExists e h fits is told =
+          inl (comes.is_taken (s.CreateIndex i) (d.Index (new_index z i)) (subst (λ (w : Statement). right.IsReadItem p (Ok w)) e read) scn (z, h, fits, refl) (name_then i.name none is) (tells-of own a _ st (ap changes_in none) told still))
+      not_made i z undone.NoTable e h fits is told = table_lacks z i.table h is
+      not_made i z undone.NoIndex e h fits is told = absurd is
+      not_made i z (undone.Limit which count) e h fits is told = limited (d.Index (new_index z i)) which (subst (λ (w : Statement). comes.AsksFor x w (d.Index (new_index z i))) (sym e) (z, h, fits, refl)) (of_index_limit z i which count is) told
+      not_made i z undone.ReadFault e h fits is told = no-device (quiet-by a.reply _ told q)
+      not_made i z undone.WriteFault e h fits is told = no-closing (quiet-by a.reply _ told q)
+      not_made i z (undone.Damaged file place) e h fits is told = no-device (quiet-by a.reply _ told q)
+      not_made i z (undone.Closed call) e h fits is told = no-closing (quiet-by a.reply _ told q)
+      not_made i z undone.Memory e h fits is told = no-memory (quiet-by a.reply _ told q)
 
       not_unmade : (i : DropIndex) (z : Table) (w : Index) (why : DefineFault) → comes.Stands x z i.table → comes.HasIndex x z w i.name → define.DefinitionFaultIs sound (d.DropIndex z.id w.id) why k → a.reply ≡ right.undefined (s.DropIndex i) why → Folds st p own a
       not_unmade i z w undone.NoTable h j is told = table_lacks z i.table h is
@@ -555,31 +595,33 @@ module _ (sound : Type 0) (is_sound : sound) (b : Base) (pre more : List Entry) 
       not_unmade i z w (undone.Closed call) h j is told = no-closing (quiet-by a.reply _ told q)
       not_unmade i z w undone.Memory h j is told = no-memory (quiet-by a.reply _ told q)
 
-      of_altered_limit : (z : Table) (w : ℕ) (i : AlterIndex) (which : Limit) (count : ℕ) → comes.Stands x z i.table → rebuilding_cause z.id.0 w (step.Limit which count) k → comes.IsOfDefinition x (s.AlterIndex i) which
-      of_altered_limit z w i bound.Stamps count at h = (z, at, last_then z.id.0 none h.1)
-      of_altered_limit z w i bound.Ids count at h = runs_out 1 none h.1
-      of_altered_limit z w i which count at h = absurd h
+      of_altered_limit : (z : Table) (w : Index) (which : Limit) (count : ℕ) → rebuilding_cause z.id.0 w.id.0 (step.Limit which count) k → comes.IsOfDefinition x (d.Rebuilding z.id w.id) which
+      of_altered_limit z w bound.Stamps count h = last_then z.id.0 none h.1
+      of_altered_limit z w bound.Ids count h = runs_out 1 none h.1
+      of_altered_limit z w which count h = absurd h
 
-      not_altered : (i : AlterIndex) (action : IndexAction) (z : Table) (w : Index) (why : DefineFault) → y ≡ s.AlterIndex i → comes.Stands x z i.table → comes.HasIndex x z w i.name → define.DefinitionFaultIs sound (altered z.id action w.id) why k → a.reply ≡ right.undefined (s.AlterIndex i) why → Folds st p own a
-      not_altered i Disable z w undone.NoTable e h j is told = table_lacks z i.table h is
-      not_altered i Disable z w undone.NoIndex e h j is told = index_lacks z w i.name j is
-      not_altered i Disable z w undone.NameExists e h j is told = absurd is
-      not_altered i Disable z w (undone.Limit which count) e h j is told = absurd is
-      not_altered i Rebuild z w undone.NoTable e h j is told = table_lacks z i.table h is
-      not_altered i Rebuild z w undone.NoIndex e h j is told = index_lacks z w i.name j is
-      not_altered i Rebuild z w undone.NameExists e h j is told = absurd is
-      not_altered i Rebuild z w (undone.Limit which count) e h j is told = limited which (subst (λ (v : Statement). comes.IsOfDefinition x v which) (sym e) (of_altered_limit z w.id.0 i which count h is)) told
-      not_altered i action z w undone.ReadFault e h j is told = no-device (quiet-by a.reply _ told q)
-      not_altered i action z w undone.WriteFault e h j is told = no-closing (quiet-by a.reply _ told q)
-      not_altered i action z w (undone.Damaged file place) e h j is told = no-device (quiet-by a.reply _ told q)
-      not_altered i action z w (undone.Closed call) e h j is told = no-closing (quiet-by a.reply _ told q)
-      not_altered i action z w undone.Memory e h j is told = no-memory (quiet-by a.reply _ told q)
+      not_altered : (i : AlterIndex) (action : IndexAction) (z : Table) (w : Index) (why : DefineFault) → comes.AsksFor x y (altered z.id action w.id) → comes.Stands x z i.table → comes.HasIndex x z w i.name → define.DefinitionFaultIs sound (altered z.id action w.id) why k → a.reply ≡ right.undefined (s.AlterIndex i) why → Folds st p own a
+      not_altered i Disable z w undone.NoTable asked h j is told = table_lacks z i.table h is
+      not_altered i Disable z w undone.NoIndex asked h j is told = index_lacks z w i.name j is
+      not_altered i Disable z w undone.NameExists asked h j is told = absurd is
+      not_altered i Disable z w (undone.Limit which count) asked h j is told = absurd is
+      not_altered i Rebuild z w undone.NoTable asked h j is told = table_lacks z i.table h is
+      not_altered i Rebuild z w undone.NoIndex asked h j is told = index_lacks z w i.name j is
+      not_altered i Rebuild z w undone.NameExists asked h j is told = absurd is
+      not_altered i Rebuild z w (undone.Limit which count) asked h j is told = limited (d.Rebuilding z.id w.id) which asked (of_altered_limit z w which count is) told
+      not_altered i action z w undone.ReadFault asked h j is told = no-device (quiet-by a.reply _ told q)
+      not_altered i action z w undone.WriteFault asked h j is told = no-closing (quiet-by a.reply _ told q)
+      not_altered i action z w (undone.Damaged file place) asked h j is told = no-device (quiet-by a.reply _ told q)
+      not_altered i action z w (undone.Closed call) asked h j is told = no-closing (quiet-by a.reply _ told q)
+      not_altered i action z w undone.Memory asked h j is told = no-memory (quiet-by a.reply _ told q)
 
       not_defined : (v : Statement) (e : Definition) (why : DefineFault) → y ≡ v → comes.AsksFor x v e → define.DefinitionFaultIs sound e why k → a.reply ≡ right.undefined v why → Folds st p own a
+      not_defined (s.CreateTable t) e why same h is told =
+          not_created st p a t why q (subst (λ (w : Statement). right.IsReadItem p (Ok w)) same read) h.0 scn h.1 (subst (λ (w : Definition). define.DefinitionFaultIs sound w why k) h.2 is) none told still
       not_defined (s.DropTable t) e why same h is told = not_dropped t h.0 why h.1 (subst (λ (w : Definition). define.DefinitionFaultIs sound w why k) h.2 is) told
-      not_defined (s.CreateIndex i) e why same h is told = not_made i h.0 why same h.1 (subst (λ (w : Definition). define.DefinitionFaultIs sound w why k) h.3 is) told
+      not_defined (s.CreateIndex i) e why same h is told = not_made i h.0 why same h.1 h.2 (subst (λ (w : Definition). define.DefinitionFaultIs sound w why k) h.3 is) told
       not_defined (s.DropIndex i) e why same h is told = not_unmade i h.0 h.1 why h.2 h.3 (subst (λ (w : Definition). define.DefinitionFaultIs sound w why k) h.4 is) told
-      not_defined (s.AlterIndex i) e why same h is told = not_altered i i.action h.0 h.1 why same h.2 h.3 (subst (λ (w : Definition). define.DefinitionFaultIs sound w why k) h.4 is) told
+      not_defined (s.AlterIndex i) e why same h is told = not_altered i i.action h.0 h.1 why (subst (λ (w : Statement). comes.AsksFor x w (altered h.0.id i.action h.1.id)) (sym same) (h.0, h.1, h.2, h.3, refl)) h.2 h.3 (subst (λ (w : Definition). define.DefinitionFaultIs sound w why k) h.4 is) told
       not_defined v e why same h is told = absurd h
 
     -- a table that was found while none was made stood before
@@ -708,6 +750,7 @@ module _ (sound : Type 0) (is_sound : sound) (b : Base) (pre more : List Entry) 
 
     -- the table of an index that is to be built
     builds_table : (y : Statement) (e : Definition) (t : TableId) → comes.AsksFor x y e → to_build e ≡ Some t → (z : Table) × (x.catalogue.tables t.0 ≡ Some z)
+    builds_table (s.CreateTable i) e t h is = none_some t (ap to_build (sym h.2) ∙ is)
     builds_table (s.DropTable i) e t h is = none_some t (ap to_build (sym h.2) ∙ is)
     builds_table (s.CreateIndex i) e t h is = let same : h.0.id ≡ t = some_same h.0.id t (ap to_build (sym h.3) ∙ is) in (h.0, ap (λ (j : TableId). x.catalogue.tables j.0) (sym same) ∙ h.1.0)
     builds_table (s.DropIndex i) e t h is = none_some t (ap to_build (sym h.4) ∙ is)
@@ -719,6 +762,7 @@ module _ (sound : Type 0) (is_sound : sound) (b : Base) (pre more : List Entry) 
     builds_table y e t h is = absurd h
 
     gone_index : (y : Statement) (e : Definition) (t : TableId) → comes.AsksFor x y e → to_build e ≡ Some t → (name : List ℕ) × (right.index_absent y ≡ reply.Refused (refusal.NoIndex name))
+    gone_index (s.CreateTable i) e t h is = none_some t (ap to_build (sym h.2) ∙ is)
     gone_index (s.DropTable i) e t h is = none_some t (ap to_build (sym h.2) ∙ is)
     gone_index (s.CreateIndex i) e t h is = (i.name, refl)
     gone_index (s.DropIndex i) e t h is = none_some t (ap to_build (sym h.4) ∙ is)
@@ -749,23 +793,23 @@ module _ (sound : Type 0) (is_sound : sound) (b : Base) (pre more : List Entry) 
         subst (λ (l : List Entry). (catalogue_of b l).tables t ≡ None) (front_is was.seen later seen) (subst (λ (c : Base). (catalogue_of c was.seen).tables t ≡ None) (sym base) lacks) in
         none_some z (sym none ∙ (ap (λ (f : ℕ → Option Table). f t) kept ∙ stands))
 
-    stops_limit : (t : ℕ) (i : ℕ) (u : TableId) (which : Limit) (count : ℕ) (was : Known) → building.BuildFaultIs sound t i (unbuilt.Limit which count) was → comes.StopsBuild x u (refusal.Limit which)
-    stops_limit t i u bound.Key count was h = tt
-    stops_limit t i u bound.Stamps count was h = tt
-    stops_limit t i u bound.Ids count was h = tt
-    stops_limit t i u bound.Rows count was h = absurd h
-    stops_limit t i u bound.Cells count was h = absurd h
-    stops_limit t i u bound.Bytes count was h = absurd h
-    stops_limit t i u bound.Columns count was h = absurd h
-    stops_limit t i u bound.Indexes count was h = absurd h
-    stops_limit t i u bound.Tables count was h = absurd h
-    stops_limit t i u bound.Regions count was h = absurd h
-    stops_limit t i u bound.Name count was h = absurd h
-    stops_limit t i u bound.Depth count was h = absurd h
-    stops_limit t i u bound.Statement count was h = absurd h
-    stops_limit t i u bound.Script count was h = absurd h
-    stops_limit t i u bound.Trail count was h = absurd h
-    stops_limit t i u which count was h = absurd h
+    stops_limit : (t : ℕ) (i : ℕ) (y : Statement) (which : Limit) (count : ℕ) (was : Known) → building.BuildFaultIs sound t i (unbuilt.Limit which count) was → comes.StopsBuild y (refusal.Limit which)
+    stops_limit t i y bound.Key count was h = tt
+    stops_limit t i y bound.Stamps count was h = tt
+    stops_limit t i y bound.Ids count was h = tt
+    stops_limit t i y bound.Rows count was h = absurd h
+    stops_limit t i y bound.Cells count was h = absurd h
+    stops_limit t i y bound.Bytes count was h = absurd h
+    stops_limit t i y bound.Columns count was h = absurd h
+    stops_limit t i y bound.Indexes count was h = absurd h
+    stops_limit t i y bound.Tables count was h = absurd h
+    stops_limit t i y bound.Regions count was h = absurd h
+    stops_limit t i y bound.Name count was h = absurd h
+    stops_limit t i y bound.Depth count was h = absurd h
+    stops_limit t i y bound.Statement count was h = absurd h
+    stops_limit t i y bound.Script count was h = absurd h
+    stops_limit t i y bound.Trail count was h = absurd h
+    stops_limit t i y which count was h = absurd h
 
     module _ (st : Settings) (p : SeenPiece) (a : Answered) (y : Statement) (f : Found) (e : Definition) (t : TableId) (m : Made) (rest left : List Act) (from : length pre ≤ a.first) (q : Quiet a.reply) (read : right.IsReadItem p (Ok y)) (scn : st.scn ≡ None)
         (bound_to : IsBoundTo b (pre ++ more) a.first f (right.table_named y)) (fits : faults_in f y ≡ []) (is : right.definition_asked f y ≡ Some e) (builds : to_build e ≡ Some t) (behind : IsBuiltBehind a.first e m own rest k)
@@ -791,7 +835,7 @@ module _ (sound : Type 0) (is_sound : sound) (b : Base) (pre more : List Entry) 
       unfolding i again_at
       keeps = subst (All keeps_tables) (sym only) (build_keeps e m t builds, again-all keeps_tables t i again_at (changes_in left) (λ n. refl) tables)
 
-      stopped : (r : Refusal) → comes.StopsBuild x t r → a.reply ≡ reply.Refused r → Folds st p own a
+      stopped : (r : Refusal) → comes.StopsBuild y r → a.reply ≡ reply.Refused r → Folds st p own a
       unfolding i again_at
       stopped r why told =
           let drew : stamps_in (changes_in own) ≡ comes.stamps_of e m ++ again_at =
@@ -803,8 +847,8 @@ module _ (sound : Type 0) (is_sound : sound) (b : Base) (pre more : List Entry) 
       not_built_by unbuilt.NoTable w told =
           let z = builds_table y e t asked builds in
           table_gone t.0 z.0 w.was w.past.more z.1 keeps (let u = w.from in let v = behind.from in omega arith) w.past.base w.past.seen w.cause
-      not_built_by unbuilt.NoIndex w told = let z = gone_index y e t asked builds in stopped (refusal.NoIndex z.0) tt (told ∙ z.1)
-      not_built_by (unbuilt.Limit which count) w told = stopped (refusal.Limit which) (stops_limit t.0 (calls.index_id_made m).0 t which count w.was w.cause) told
+      not_built_by unbuilt.NoIndex w told = let z = gone_index y e t asked builds in stopped (refusal.NoIndex z.0) z.1 (told ∙ z.1)
+      not_built_by (unbuilt.Limit which count) w told = stopped (refusal.Limit which) (stops_limit t.0 (calls.index_id_made m).0 y which count w.was w.cause) told
       not_built_by (unbuilt.BelowHorizon h) w told = stopped (refusal.BelowHorizon h) tt told
       not_built_by unbuilt.ReadFault w told = no-device (quiet-by a.reply _ told q)
       not_built_by unbuilt.WriteFault w told = no-closing (quiet-by a.reply _ told q)
@@ -838,9 +882,9 @@ module _ (sound : Type 0) (is_sound : sound) (b : Base) (pre more : List Entry) 
     defs_batches t (cs ∷ parts) [] = refl
     defs_batches t (cs ∷ parts) (n ∷ stamps) = defs_batches t parts stamps
 
-    made_defs : (q : Planned) (first : ℕ) (t : TableId) (cs : List Change) (parts : List (List Change)) (rs : List Receipt) (finding making : List Act) → own ≡ finding ++ making → deleting.HasFoundRows sound q k first finding cs → deleting.AreMade k t parts rs making → defs_in (changes_in own) ≡ []
+    made_defs : (q : Planned) (first : ℕ) (t : TableId) (cs : List Change) (parts : List (List Change)) (rs : List Receipt) (finding making : List Act) → own ≡ finding ++ making → deleting.HasFoundRows sound q k first finding cs → deleting.AreMade sound k t parts rs making → defs_in (changes_in own) ≡ []
     made_defs q first t cs parts rs finding making e h made =
-        ap defs_in (ap changes_in e ∙ (changes-append finding making ∙ (ap (λ (l : List Act). changes_in l ++ changes_in making) h.outcome.1 ∙ batches-made k t parts rs making made))) ∙ defs_batches t parts (stamps_told rs)
+        ap defs_in (ap changes_in e ∙ (changes-append finding making ∙ (ap (λ (l : List Act). changes_in l ++ changes_in making) h.outcome.1 ∙ batches-made sound k t parts rs making made))) ∙ defs_batches t parts (stamps_told rs)
 
     -- nothing is defined for a DELETE that is stopped
     pub stopped_defs : (q : Planned) (rs : List Receipt) (why : BatchFault) (name : List ℕ) → Quiet (reply.Refused (right.batch_refusal name why)) → deleting.HasStopped sound q own k rs why → defs_in (changes_in own) ≡ []
@@ -873,26 +917,26 @@ module _ (sound : Type 0) (is_sound : sound) (b : Base) (pre more : List Entry) 
         inl (comes.are_too_many y g.0 cs read scn off g.1 (subst (λ (t : Table). delete_faults t.columns y ≡ []) (sym g.2) fits) g.3 (subst (λ (t : Table). right.AreTooManyOf t cs st) (sym g.2) many) (tells-of own a _ st none told.0 told.3))
 
     -- a current query is refused for no other cause than that its table is gone
-    not_found : {A : Type 0} → (y : Rattle.px_gather.specs.Query.Query) (name : List ℕ) (f : Found) (why : QueryFault) (r : Reply) → Quiet r → y.table ≡ f.table.id.0 → HasTable x f name → changes_in own ≡ [] → QueryFaultIs sound y None why k → r ≡ reply.Refused (right.query_refusal name why) → A
-    not_found y name f unread.NoTable r q e finds none is told = stands_then f name none finds (subst (LacksTable k) e is)
-    not_found y name f (unread.BelowHorizon h) r q e finds none is told = absurd is
-    not_found y name f unread.IndexJoin r q e finds none is told = absurd (quiet-by r _ told q)
-    not_found y name f unread.ReadFault r q e finds none is told = no-device (quiet-by r _ told q)
-    not_found y name f unread.WriteFault r q e finds none is told = no-closing (quiet-by r _ told q)
-    not_found y name f (unread.Damaged file place) r q e finds none is told = no-device (quiet-by r _ told q)
-    not_found y name f (unread.Closed call) r q e finds none is told = no-closing (quiet-by r _ told q)
-    not_found y name f unread.Memory r q e finds none is told = no-memory (quiet-by r _ told q)
+    not_found : {A : Type 0} → (y : Rattle.px_gather.specs.Query.Query) (name : List ℕ) (f : Found) (why : QueryFault) (r : Reply) → ((g : Found) (n : ℕ) → y.joins g n ≡ false) → Quiet r → y.table ≡ f.table.id.0 → HasTable x f name → changes_in own ≡ [] → QueryFaultIs sound y None why k → r ≡ reply.Refused (right.query_refusal name why) → A
+    not_found y name f unread.NoTable r never q e finds none is told = stands_then f name none finds (subst (LacksTable k) e is)
+    not_found y name f (unread.BelowHorizon h) r never q e finds none is told = absurd is
+    not_found y name f unread.IndexJoin r never q e finds none is told = (let z : ◌≡◌ {A = Bool} true false = sym is.joins ∙ never is.point.found is.point.stamp in cc)
+    not_found y name f unread.ReadFault r never q e finds none is told = no-device (quiet-by r _ told q)
+    not_found y name f unread.WriteFault r never q e finds none is told = no-closing (quiet-by r _ told q)
+    not_found y name f (unread.Damaged file place) r never q e finds none is told = no-device (quiet-by r _ told q)
+    not_found y name f (unread.Closed call) r never q e finds none is told = no-closing (quiet-by r _ told q)
+    not_found y name f unread.Memory r never q e finds none is told = no-memory (quiet-by r _ told q)
 
     pub form : (before : ℕ) (st : Settings) (p : SeenPiece) (a : Answered) → length pre ≤ before → before ≤ a.first → Quiet a.reply → FindsRows → DeletesRows → StopsRows → IsRight sound k before own st p a → Folds st p own a
     form before st p a at from q rows deletes stops_ (right.is_at_once once none) = inl (comes.is_at_once a once (idle a none))
     form before st p a at from q rows deletes stops_ (right.is_unfound y read may lacking told none) = inl (comes.is_unfound y read may (lacks-at b pre more (defs_by (no_defs none)) seat damaged a.first (right.table_named y) (omega arith) lacking) (silent st a _ none told))
     form before st p a at from q rows deletes stops_ (right.is_closed y call read closed told none) = no-closing (quiet-by a.reply _ told.0 q)
     form before st p a at from q rows deletes stops_ (right.is_wrong y f fault read may bound first told none) = inl (comes.is_wrong y f fault read may (finds a.first f (right.table_named y) (no_defs none) (omega arith) bound) first (silent st a _ none told))
-    form before st p a at from q rows deletes stops_ (right.is_changed u f r read scn on bound fits ended told) = changed st p a u f r.stamp read scn on (omega arith) bound fits ended.one told.0 told.3
+    form before st p a at from q rows deletes stops_ (right.is_changed u f r read scn on bound fits ended told) = changed st p a u f r.stamp read scn on (omega arith) bound fits ended.one ended.kept told.0 told.3
     form before st p a at from q rows deletes stops_ (right.is_not_changed u f why read scn on bound fits is since left told) = not_changed st p a u f why q read scn on (omega arith) bound fits is left told
     form before st p a at from q rows deletes stops_ (right.is_held u f st' read scn off bound fits holding told none) = inl (comes.is_held u f st' read scn off (finds a.first f u.table (no_defs none) (omega arith) bound) fits holding (silent st' a _ none told))
     form before st p a at from q rows deletes stops_ (right.is_full u f read scn off bound fits full told none) = inl (comes.is_full u f read scn off (finds a.first f u.table (no_defs none) (omega arith) bound) fits full (silent st a _ none told))
-    form before st p a at from q rows deletes stops_ (right.is_committed again h rs held asked outcome told) = committed st p a h again outcome.0.stamp held (omega arith) asked outcome.2.one told.0 told.3
+    form before st p a at from q rows deletes stops_ (right.is_committed again h rs held asked outcome told) = committed st p a h again outcome.0.stamp held (omega arith) asked outcome.2.one outcome.2.kept told.0 told.3
     form before st p a at from q rows deletes stops_ (right.is_not_committed again h why held asked outcome since stops told) = not_committed st p a h again why q held (omega arith) asked outcome.0 outcome.1 stops told.2
     form before st p a at from q rows deletes stops_ (right.is_counted name r read outcome told none) = counted st p a name r none read (omega arith) outcome told
     form before st p a at from q rows deletes stops_ (right.is_not_counted name why read is since told none) = not_counted st p a name why q none read (omega arith) is told
@@ -908,7 +952,7 @@ module _ (sound : Type 0) (is_sound : sound) (b : Base) (pre more : List Entry) 
       | inr tried ↦ not_built_by st p a y f e t m rest (IndexState t (calls.index_id_made m) states.Disabled tried.0 ∷ []) (omega arith) q read scn bound fits is builds behind tried.1 (inr (tried.0, refl)) (refl, tt) (refl, tt) (refl, tt) refl told.3 why built.0 told.0
     ]
     form before st p a at from q rows deletes stops_ (right.is_created t m read one scn fits made told) = created st p a t m read one scn fits made told
-    form before st p a at from q rows deletes stops_ (right.is_not_created t why read one scn fits cause since none told) = not_created st p a t why q read scn cause none told
+    form before st p a at from q rows deletes stops_ (right.is_not_created t why read one scn fits cause since none told) = not_created st p a t why q read one scn fits cause none told.0 told.3
     form before st p a at from q rows deletes stops_ (right.is_index_absent i f read scn bound exists absent told none) = inl (comes.is_index_absent i f read scn (finds a.first f i.table (no_defs none) (omega arith) bound) exists absent (silent st a _ none told))
     form before st p a at from q rows deletes stops_ (right.is_selected y f z r read bound asked outcome told) =
         let none : changes_in own ≡ [] = ap changes_in outcome.1 in
@@ -916,7 +960,7 @@ module _ (sound : Type 0) (is_sound : sound) (b : Base) (pre more : List Entry) 
     form before st p a at from q rows deletes stops_ (right.is_not_selected y f z why read bound asked outcome since (inr lack)) = no-memory (quiet-by a.reply _ lack.0 q)
     form before st p a at from q rows deletes stops_ (right.is_not_selected y f z why read bound asked outcome since (inl told)) =
         let none : changes_in own ≡ [] = refused_calm (query_of z) outcome.1 in
-        not_selected st p a none told.3 q y f (query_of z) why (ap (λ (w : Planned). w.table.id.0) asked.1.2) outcome.0 read (finds before f y.table (ap defs_in none) at bound) asked.0 told.0
+        not_selected st p a none told.3 q y f z before why at asked outcome.0 since read (finds before f y.table (ap defs_in none) at bound) told.0
     form before st p a at from q rows deletes stops_ (right.is_deleted y f m read scn on bound fits h first told) =
         inl (deletes st p a y f m (omega arith) read scn on (finds a.first f y.table (made_defs (right.deletion_query f y) m.first f.table.id h.changes h.parts a.receipts h.finding h.making h.own_is h.found h.made) (omega arith) bound) fits h told.0 told.2)
     form before st p a at from q rows deletes stops_ (right.is_not_deleted y f why read scn on bound fits h since (inr lack) told) = no-memory (quiet-by a.reply _ lack.0 q)
@@ -925,10 +969,10 @@ module _ (sound : Type 0) (is_sound : sound) (b : Base) (pre more : List Entry) 
     form before st p a at from q rows deletes stops_ (right.is_not_found y f why read scn bound fits outcome since (inr lack)) = no-memory (quiet-by a.reply _ lack.0 q)
     form before st p a at from q rows deletes stops_ (right.is_not_found y f why read scn bound fits outcome since (inl told)) =
         let none : changes_in own ≡ [] = refused_calm (query_of (right.deletion_query f y)) outcome.1 in
-        not_found (query_of (right.deletion_query f y)) y.table f why a.reply q refl (finds a.first f y.table (ap defs_in none) (omega arith) bound) none outcome.0 told.0
+        not_found (query_of (right.deletion_query f y)) y.table f why a.reply (λ g n. refl) q refl (finds a.first f y.table (ap defs_in none) (omega arith) bound) none outcome.0 told.0
     form before st p a at from q rows deletes stops_ (right.are_held y f first cs st' read scn off bound fits found begins holding told) =
         held_rows rows st p a y f first cs st' read scn off (finds a.first f y.table (ap (λ (l : List Act). defs_in (changes_in l)) found.outcome.1) (omega arith) bound) fits (omega arith) found holding told
     form before st p a at from q rows deletes stops_ (right.are_too_many y f first cs read scn off bound fits found begins many told) =
         many_rows rows st p a y f first cs read scn off (finds a.first f y.table (ap (λ (l : List Act). defs_in (changes_in l)) found.outcome.1) (omega arith) bound) fits (omega arith) found many told
     form before st p a at from q rows deletes stops_ (right.is_explained y f z read bound planned told none) = inl (comes.is_explained y f z read (finds a.first f y.table (no_defs none) (omega arith) bound) planned (silent st a _ none told))
-    form before st p a at from q rows deletes stops_ (right.is_not_explained y f read bound planned told none) = absurd (quiet-by a.reply _ told.0 q)
+    form before st p a at from q rows deletes stops_ (right.is_not_explained y f read bound planned told none) = inl (comes.is_not_explained y f read (finds a.first f y.table (no_defs none) (omega arith) bound) planned (silent st a _ none told))

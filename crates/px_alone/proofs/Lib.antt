@@ -2,6 +2,7 @@ pub mod Balanced
 pub mod Standing
 pub mod Rows
 pub mod Calm
+pub mod Limits
 pub mod Outcomes
 pub mod Finding
 pub mod Balances

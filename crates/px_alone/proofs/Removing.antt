@@ -38,15 +38,16 @@ use Rattle.px_reply.specs.declared.reply.Reply.TheVariants as reply
 use Rattle.px_values.specs.declared.name.TableId.{TableId}
 use Rattle.px_values.specs.declared.print.CountWord.TheVariants.{Affected}
 use Rattle.px_alone.specs.Alone.{tables_at}
-use Rattle.px_alone.specs.Answers.{AreStampsDrawn, ComesAlone, AreRowsFound, IsQueryAnswered, batches}
+use Rattle.px_alone.specs.Answers.{AreBatchesDone, ComesAlone, AreRowsFound, IsQueryAnswered, batches}
 use Rattle.px_alone.specs.Answers as comes
-use Rattle.px_alone.specs.Tables.{HasTable}
-use Rattle.px_alone.proofs.Batching.{batches-made, changes-append, drawn-all, paired-made, same-front, stamps-batches, stamps_told}
-use Rattle.px_alone.proofs.Calm.{AreCalm, take-past}
+use Rattle.px_alone.specs.Tables.{HasTable, after_all}
+use Rattle.px_alone.proofs.Batching.{batches-made, changes-append, done-all, kept-made, paired-made, same-front, stamps-batches, stamps_told}
+use Rattle.px_alone.proofs.Calm.{AreCalm, changed-tables, take-past, with_horizon}
+use Rattle.px_alone.proofs.Limits.{refused-by}
 use Rattle.px_alone.proofs.Finding.{catalogue-at, defs-changes, defs_in}
-use Rattle.px_calls.specs.Causes.{LacksTable}
-use Rattle.px_trail.specs.Trail.{Catalogue, catalogue_of}
-use Rattle.px_alone.proofs.Forms.{DeletesRows, FindsRows, StopsRows, finds_point, of_batch, point_table, some_current, stopped_defs}
+use Rattle.px_calls.specs.Causes.{LacksTable, batch_limit}
+use Rattle.px_trail.specs.Trail.{Catalogue, catalogue_of, horizon_of}
+use Rattle.px_alone.proofs.Forms.{DeletesRows, FindsRows, StopsRows, finds_point, point_table, some_current, stopped_defs}
 use Rattle.px_alone.proofs.Rows.{AllDone}
 use Rattle.px_alone.proofs.Standing.{OthersQuiet, acts_of, acts-append, is_change, changes-own, changes_in, outline-append, quiet-parts}
 use Rattle.px_alone.proofs.Outcomes.{no-closing, no-device, no-memory, outcome_of, quiet-by, stamps_in}
@@ -162,19 +163,19 @@ module _ (sound : Type 0) (is_sound : sound) (b : Base) (pre more : List Entry) 
       let z = parts h.found.past.seen h.found.was.more (far_of (right.deletion_query f y) m.first h.finding h.changes from h.found) h.found.was.seen in
       let g = rows-by y f m.first h.finding h.changes finds from h.found z (calm_before (right.deletion_query f y) m.first h.finding h.making h.changes h.own_is h.found h.found_first z) in
       let only : changes_in own ≡ batches t h.parts (stamps_told rs) =
-      ap changes_in h.own_is ∙ (changes-append h.finding h.making ∙ (ap (λ (l : List Act). changes_in l ++ changes_in h.making) h.found.outcome.1 ∙ batches-made k t h.parts rs h.making h.made)) in
-      let paired = paired-made k t h.parts rs h.making h.made in
+      ap changes_in h.own_is ∙ (changes-append h.finding h.making ∙ (ap (λ (l : List Act). changes_in l ++ changes_in h.making) h.found.outcome.1 ∙ batches-made sound k t h.parts rs h.making h.made)) in
+      let paired = paired-made sound k t h.parts rs h.making h.made in
       let drew : stamps_in (changes_in own) ≡ stamps_told rs = ap stamps_in only ∙ stamps-batches t h.parts (stamps_told rs) paired in
-      let drawn : AreStampsDrawn (tables_at b pre) t h.parts (stamps_told rs) = drawn-all b pre more t h.parts (stamps_told rs) legal paired (changes-own seat more quiet ∙ only) in
+      let dealt : AreBatchesDone (tables_at b pre) t h.parts (stamps_told rs) = done-all sound is_sound b pre more t h.parts (stamps_told rs) legal (kept-made sound k t h.parts rs h.making h.made) (changes-own seat more quiet ∙ only) in
       comes.is_deleted y g.0 h.changes h.parts (stamps_told rs) read scn on g.1 (subst (λ (w : Table). delete_faults w.columns y ≡ []) (sym g.2) fits) g.3 h.split
-      (subst (λ (w : Table). AreStampsDrawn (tables_at b pre) w.id h.parts (stamps_told rs)) (sym g.2) drawn)
+      (subst (λ (w : Table). AreBatchesDone (tables_at b pre) w.id h.parts (stamps_told rs)) (sym g.2) dealt)
       (λ i. record { stamps = drew i; reply = (told ∙ ap (λ (n : ℕ). reply.Count n Affected) h.rows) i; next = still i; acts = (only ∙ ap (λ (w : Table). batches w.id h.parts (stamps_told rs)) (sym g.2)) i })
 
   -- one that is stopped by a limit, where its rows were found behind the beginning
   pub stopped-form : (st : Settings) (p : SeenPiece) (a : Answered) (y : Delete) (f : Found) (rs : List Receipt) (which : Limit) (count : ℕ) → right.IsReadItem p (Ok (s.Delete y)) → st.scn ≡ None → st.autocommit ≡ true → HasTable (tables_at b pre) f y.table → delete_faults f.table.columns y ≡ []
-      → (h : deleting.HasStopped sound (right.deletion_query f y) (outline (acts_by seat more)) k rs (unmade.Limit which count)) → length pre ≤ h.first → comes.IsOfBatch which → a.reply ≡ reply.Refused (refusal.Limit which) → a.after ≡ next_is.Next st
+      → (h : deleting.HasStopped sound (right.deletion_query f y) (outline (acts_by seat more)) k rs (unmade.Limit which count)) → length pre ≤ h.first → batch_limit sound f.table.id.0 (take 1000 h.rest) which k → a.reply ≡ reply.Refused (refusal.Limit which) → a.after ≡ next_is.Next st
       → ComesAlone (tables_at b pre) st p (outcome_of (outline (acts_by seat more)) a)
-  stopped-form st p a y f rs which count read scn on finds fits h from of told still =
+  stopped-form st p a y f rs which count read scn on finds fits h from limit told still =
       let own : List Act = outline (acts_by seat more) in
       let t : TableId = f.table.id in
       let nothing : h.stopping ≡ [] = elim h.outcome.1 [ inl e ↦ e | inr e ↦ absurd e.0 ] in
@@ -183,12 +184,15 @@ module _ (sound : Type 0) (is_sound : sound) (b : Base) (pre more : List Entry) 
       let z = parts h.found.past.seen h.found.was.more (far_of (right.deletion_query f y) h.first h.finding h.changes from h.found) h.found.was.seen in
       let g = rows-by y f h.first h.finding h.changes finds from h.found z (calm_before (right.deletion_query f y) h.first h.finding h.making h.changes own_is h.found behind z) in
       let only : changes_in own ≡ batches t h.parts (stamps_told rs) =
-      ap changes_in own_is ∙ (changes-append h.finding h.making ∙ (ap (λ (l : List Act). changes_in l ++ changes_in h.making) h.found.outcome.1 ∙ batches-made k t h.parts rs h.making h.made)) in
-      let paired = paired-made k t h.parts rs h.making h.made in
+      ap changes_in own_is ∙ (changes-append h.finding h.making ∙ (ap (λ (l : List Act). changes_in l ++ changes_in h.making) h.found.outcome.1 ∙ batches-made sound k t h.parts rs h.making h.made)) in
+      let paired = paired-made sound k t h.parts rs h.making h.made in
       let drew : stamps_in (changes_in own) ≡ stamps_told rs = ap stamps_in only ∙ stamps-batches t h.parts (stamps_told rs) paired in
-      let drawn : AreStampsDrawn (tables_at b pre) t h.parts (stamps_told rs) = drawn-all b pre more t h.parts (stamps_told rs) legal paired (changes-own seat more quiet ∙ only) in
+      let dealt : AreBatchesDone (tables_at b pre) t h.parts (stamps_told rs) = done-all sound is_sound b pre more t h.parts (stamps_told rs) legal (kept-made sound k t h.parts rs h.making h.made) (changes-own seat more quiet ∙ only) in
+      let over : comes.IsOfBatch (after_all (tables_at b pre) (batches t h.parts (stamps_told rs))) t.0 (take 1000 h.rest) which =
+      refused-by sound is_sound k (after_all (tables_at b pre) (batches t h.parts (stamps_told rs))) (λ u. horizon_of b u (pre ++ more))
+      (changed-tables b pre more ∙ ap (λ (l : List Act). with_horizon (after_all (tables_at b pre) l) (λ u. horizon_of b u (pre ++ more))) (changes-own seat more quiet ∙ only)) t.0 (take 1000 h.rest) which limit in
       comes.is_not_deleted y g.0 h.changes h.rest h.parts (stamps_told rs) which read scn on g.1 (subst (λ (w : Table). delete_faults w.columns y ≡ []) (sym g.2) fits) g.3 h.split h.some
-      (subst (λ (w : Table). AreStampsDrawn (tables_at b pre) w.id h.parts (stamps_told rs)) (sym g.2) drawn) of
+      (subst (λ (w : Table). AreBatchesDone (tables_at b pre) w.id h.parts (stamps_told rs)) (sym g.2) dealt) (subst (λ (w : Table). comes.IsOfBatch (after_all (tables_at b pre) (batches w.id h.parts (stamps_told rs))) w.id.0 (take 1000 h.rest) which) (sym g.2) over)
       (λ i. record { stamps = drew i; reply = told i; next = still i; acts = (only ∙ ap (λ (w : Table). batches w.id h.parts (stamps_told rs)) (sym g.2)) i })
 
   stands_late : {A : Type 0} → (f : Found) (name : List ℕ) → defs_in (acts_of more) ≡ [] → HasTable (tables_at b pre) f name → LacksTable k f.table.id.0 → A
@@ -207,8 +211,7 @@ module _ (sound : Type 0) (is_sound : sound) (b : Base) (pre more : List Entry) 
       let defs = stopped_defs sound is_sound b pre more seat damaged legal done quiet (outline (acts_by seat more)) refl (right.deletion_query f y) a.receipts unmade.NoTable y.table (quiet-by a.reply _ told q) h in
       stands_late f y.table (defs-changes (acts_of more) ∙ (ap defs_in (changes-own seat more quiet) ∙ defs)) finds h.outcome.0
   stops-rows st p a y f (unmade.Limit which count) q read scn on finds fits h from (inl told) still =
-      stopped-form st p a y f a.receipts which count read scn on finds fits h from
-      (of_batch sound is_sound b pre more seat damaged legal done quiet (outline (acts_by seat more)) refl sound f.table.id.0 (take 1000 h.rest) which h.outcome.0.2) told still
+      stopped-form st p a y f a.receipts which count read scn on finds fits h from h.outcome.0.2 told still
   stops-rows st p a y f unmade.ReadFault q read scn on finds fits h from (inl told) still = no-device (quiet-by a.reply _ told q)
   stops-rows st p a y f unmade.WriteFault q read scn on finds fits h from (inl told) still = no-closing (quiet-by a.reply _ told q)
   stops-rows st p a y f (unmade.Damaged file place) q read scn on finds fits h from (inl told) still = no-device (quiet-by a.reply _ told q)

@@ -98,11 +98,9 @@ pub record ActsAlone (k : Known) (n m : ℕ) : Type 0 where
   pub ended : (t s : ℕ) (y : Batch) → batch_of t s (take n k.seen) ≡ Some y → y.ended ≡ true
   pub others : (seat : ℕ) → seat ≢ k.seat → outline (acts_by seat (entries_between n m k.seen)) ≡ []
 
--- A reply that isn't refused, or is refused for the statement's own sake. That a hinted index lacks a column isn't told of a SELECT by the definitions at its
--- point, and so it is left out
+-- a reply that isn't refused, or is refused for the statement's own sake
 abbrev pub IsOwnCause : Option Refusal → Type 0
 IsOwnCause None = Unit {0}
-IsOwnCause (Some refusal.IndexJoin) = ⊥
 IsOwnCause (Some r) = cause_of r ≡ Statement
 
 abbrev pub AreQuiet : List Item → Type 0

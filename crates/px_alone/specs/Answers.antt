@@ -1,6 +1,7 @@
 -- What a statement or a session command is answered on the tables as they stand, and what it does to them.
-use Rattle.std.specs.Prelude.{ℕ, ◌≡◌, ◌≢◌, ◌<◌, ◌≤◌, ◌+◌, ◌-◌, ◌⊎◌, ◌++◌, Bool, true, false, List, [], ◌∷◌, length, map, Option, None, Some, Ok, Err}
+use Rattle.std.specs.Prelude.{ℕ, ◌≡◌, ◌≢◌, ◌<◌, ◌≤◌, ◌+◌, ◌-◌, ◌⊎◌, ◌++◌, Bool, true, false, List, [], ◌∷◌, length, map, take, Option, None, Some, IsSome, Ok, Err, sum_by}
 use Rattle.std.specs.List.{AllByRecursion}
+use Rattle.px_values.specs.States.{RowState, Shape, apply}
 use Rattle.px_values.specs.declared.change.Change.{Change}
 use Rattle.px_values.specs.declared.limit.Limit.{Limit}
 use Rattle.px_values.specs.declared.limit.Limit.TheVariants as bound
@@ -8,8 +9,9 @@ use Rattle.px_values.specs.declared.name.IndexId.{IndexId}
 use Rattle.px_values.specs.declared.name.TableId.{TableId}
 use Rattle.px_values.specs.declared.print.CountWord.TheVariants.{Affected, Held}
 use Rattle.px_values.specs.declared.row.Value.{Value}
+use Rattle.px_keys.specs.Spelling.{spelled}
+use Rattle.px_paths.specs.Paths.{columns_on, table_path}
 use Rattle.px_lex.specs.Script.{SeenPiece}
-use Rattle.px_ast.specs.declared.definition.CreateTable.{CreateTable}
 use Rattle.px_ast.specs.declared.definition.DropIndex.{DropIndex}
 use Rattle.px_ast.specs.declared.statement.Delete.{Delete}
 use Rattle.px_ast.specs.declared.statement.Select.{Select}
@@ -41,12 +43,14 @@ use Rattle.px_tables.specs.declared.index.Index.{Index}
 use Rattle.px_tables.specs.declared.index.IndexState.TheVariants as states
 use Rattle.px_tables.specs.declared.table.Table.{Table}
 use Rattle.px_trail.specs.Answers.{AreInOrder, Asked, Given, IsAmong, IsCutByLimit, IsRowGiven, IsWithinLimit}
-use Rattle.px_trail.specs.Trail.{IsFreeName}
+use Rattle.px_trail.specs.States.{greatest_stamp}
+use Rattle.px_trail.specs.Trail.{Catalogue, IsFreeName}
 use Rattle.px_trail.specs.declared.entry.Act.{Act}
 use Rattle.px_trail.specs.declared.entry.Act.TheVariants.{Begun, IndexState}
 use Rattle.px_calls.specs.Calls.{AreCountsRising, IsDefinitionMade, act_of, index_id_made}
 use Rattle.px_values.specs.Limits.{most_of}
-use Rattle.px_calls.specs.Causes.{HasName, count_below, of_table}
+use Rattle.px_calls.specs.Causes.{HasName, IsLong, IsLongIn, count_below, of_table}
+use Rattle.px_calls.specs.Sizes.{WritesTooMuch}
 use Rattle.px_calls.specs.declared.query.By.{By}
 use Rattle.px_calls.specs.declared.definition.Definition.{Definition}
 use Rattle.px_calls.specs.declared.definition.Definition.TheVariants as d
@@ -60,12 +64,12 @@ use Rattle.px_reply.specs.declared.reply.Defined.TheVariants as defined
 use Rattle.px_reply.specs.declared.reply.Reply.{Reply}
 use Rattle.px_reply.specs.declared.reply.Reply.TheVariants as reply
 use Rattle.px_item.specs.Builds.{altered, to_build}
-use Rattle.px_item.specs.Right.{AsksCommit, AreTooManyOf, IsAtOnce, IsCommandRead, IsFullOf, IsHolding, IsHoldingAll, IsPlanned, IsReadItem, MayHold, MayRun, after_commit, bind_refusal, command_ordering, definition_word, emptied, is_none_of, name_taken, one_change, order_reply, table_absent, table_named}
+use Rattle.px_item.specs.Right.{AsksCommit, AreTooManyOf, IsAtOnce, IsCommandRead, IsFullOf, IsHolding, IsHoldingAll, IsPlanned, IsReadItem, MayHold, MayRun, after_commit, bind_refusal, command_ordering, definition_word, emptied, index_absent, is_none_of, name_taken, one_change, order_reply, table_absent, table_named}
 use Rattle.px_item.specs.declared.answered.After.{After}
 use Rattle.px_item.specs.declared.answered.After.TheVariants as next_is
 use Rattle.px_item.specs.declared.answered.Answered.{Answered}
 use Rattle.px_item.specs.declared.answered.Settings.{Settings}
-use Rattle.px_alone.specs.Tables.{HasTable, IsStampDrawn, IsIn, IsKept, HasNoTable, Tables, after, point_stamp, stamp_of}
+use Rattle.px_alone.specs.Tables.{HasTable, IsStampDrawn, IsIn, IsKept, HasNoTable, Tables, after, after_all, point_stamp, stamp_of, state_in}
 
 -- ---- 1. Outcomes
 
@@ -117,12 +121,6 @@ abbrev pub batches : TableId → List (List Change) → List ℕ → List Act
 batches t (cs ∷ parts) (stamp ∷ stamps) = Begun t stamp cs ∷ batches t parts stamps
 batches t parts stamps = []
 
--- each stamp is drawn behind the one before
-abbrev pub AreStampsDrawn : Tables → TableId → List (List Change) → List ℕ → Type 0
-AreStampsDrawn x t [] [] = Unit {0}
-AreStampsDrawn x t (cs ∷ parts) (stamp ∷ stamps) = IsStampDrawn x t.0 stamp × AreStampsDrawn (after x (Begun t stamp cs)) t parts stamps
-AreStampsDrawn x t parts stamps = ⊥
-
 -- ---- 3. Held changes
 
 -- an UPSERT or a DELETE in which nothing is wrong, of another table than the one of what is held
@@ -154,8 +152,9 @@ Stands x z name = (x.catalogue.tables z.id.0 ≡ Some z) × (z.name ≡ name)
 abbrev pub HasIndex : Tables → Table → Index → List ℕ → Type 0
 HasIndex x z i name = (x.catalogue.indexes i.id.0 ≡ Some i) × (i.table.0 ≡ z.id.0) × (i.name ≡ name)
 
--- the definition that a statement asks for, of a table that stands
+-- the definition that a statement asks for, in which nothing is wrong: of a table that stands, but for a CREATE TABLE
 abbrev pub AsksFor : Tables → Statement → Definition → Type 0
+AsksFor x (s.CreateTable t) e = (is_none_of t.splits ≡ true) × (table_faults t ≡ []) × (e ≡ d.Table (new_table t))
 AsksFor x (s.DropTable t) e = (z : Table) × Stands x z t.name × (e ≡ d.DropTable z.id)
 AsksFor x (s.CreateIndex i) e = (z : Table) × Stands x z i.table × (index_faults z i ≡ []) × (e ≡ d.Index (new_index z i))
 AsksFor x (s.DropIndex i) e = (z : Table) × (w : Index) × Stands x z i.table × HasIndex x z w i.name × (e ≡ d.DropIndex z.id w.id)
@@ -173,10 +172,10 @@ stamps_of (d.Index what) m = m.stamp ∷ []
 stamps_of (d.Rebuilding t i) m = m.stamp ∷ []
 stamps_of e m = []
 
--- a new table and a new index take the next numbers, after those of their regions; and an index that is built draws a stamp
+-- a new table and a new index have a name that is free, and take the next numbers, after those of their regions; and an index that is built draws a stamp
 abbrev pub TakesNext : Tables → Definition → Made → Type 0
-TakesNext x (d.Table what) m = m.number ≡ x.catalogue.next + length what.least_keys
-TakesNext x (d.Index what) m = (m.number ≡ x.catalogue.next + 1) × IsStampDrawn x what.table.0 m.stamp
+TakesNext x (d.Table what) m = IsFreeName x.catalogue what.name × (m.number ≡ x.catalogue.next + length what.least_keys)
+TakesNext x (d.Index what) m = IsFreeName x.catalogue what.name × (m.number ≡ x.catalogue.next + 1) × IsStampDrawn x what.table.0 m.stamp
 TakesNext x (d.Rebuilding t i) m = IsStampDrawn x t.0 m.stamp
 TakesNext x e m = Unit {0}
 
@@ -184,48 +183,84 @@ TakesNext x e m = Unit {0}
 abbrev pub LeavesIndex : TableId → IndexId → List Act → Type 0
 LeavesIndex t i acts = (acts ≡ []) ⊎ ((stamp : ℕ) × (acts ≡ IndexState t i states.Disabled stamp ∷ []))
 
--- why an index isn't built: a row's key in it would be too long, or no stamp or no number is left; its birth is below the horizon; or it is gone
-abbrev pub StopsBuild : Tables → TableId → Refusal → Type 0
-StopsBuild x t (refusal.Limit bound.Key) = Unit {0}
-StopsBuild x t (refusal.Limit bound.Stamps) = Unit {0}
-StopsBuild x t (refusal.Limit bound.Ids) = Unit {0}
-StopsBuild x t (refusal.BelowHorizon h) = Unit {0}
-StopsBuild x t (refusal.NoIndex name) = Unit {0}
-StopsBuild x t r = ⊥
+-- why an index isn't built: a row's key in it would be too long, or no stamp or no number is left; its birth is below the horizon; or it is gone, and is told by
+-- the name that the statement has for it
+abbrev pub StopsBuild : Statement → Refusal → Type 0
+StopsBuild y (refusal.Limit bound.Key) = Unit {0}
+StopsBuild y (refusal.Limit bound.Stamps) = Unit {0}
+StopsBuild y (refusal.Limit bound.Ids) = Unit {0}
+StopsBuild y (refusal.BelowHorizon h) = Unit {0}
+StopsBuild y (refusal.NoIndex name) = index_absent y ≡ reply.Refused (refusal.NoIndex name)
+StopsBuild y r = ⊥
 
--- the name of what is made
-abbrev pub MakesOf : Statement → List ℕ → Type 0
-MakesOf (s.CreateTable t) name = t.name ≡ name
-MakesOf (s.CreateIndex i) name = i.name ≡ name
-MakesOf y name = ⊥
+-- a table or an index has the name of what would be made
+abbrev pub IsNameTaken : Tables → Definition → Type 0
+IsNameTaken x (d.Table what) = HasName x.catalogue what.name
+IsNameTaken x (d.Index what) = HasName x.catalogue what.name
+IsNameTaken x e = ⊥
 
 -- ---- 5. Limits
 
--- the limits of a batch, of a new table, and of an index that is built
-abbrev pub IsOfBatch : Limit → Type 0
-IsOfBatch bound.Key = Unit {0}
-IsOfBatch bound.Cells = Unit {0}
-IsOfBatch bound.Bytes = Unit {0}
-IsOfBatch bound.Stamps = Unit {0}
-IsOfBatch bound.Trail = Unit {0}
-IsOfBatch bound.Log = Unit {0}
-IsOfBatch bound.Region = Unit {0}
-IsOfBatch which = ⊥
+-- a key that a change needs in a maintained index is too long: that of the row before it, or after it
+pub record IsLongAloneIn (d : Catalogue) (shapes : ℕ → Shape) (state : ℕ → List Value → RowState) (t : Table) (c : Change) : Type 0 where
+  pub index : Index
+  pub is : d.indexes index.id.0 ≡ Some index
+  pub owner : index.table.0 ≡ t.id.0
+  pub maintained : index.state ≢ states.Disabled
+  pub long : IsLongIn t index (state t.id.0 c.row) ⊎ IsLongIn t index (apply (shapes t.id.0) c.row (state t.id.0 c.row) c.what)
+
+-- a key that the changes need is too long: a row key, or a key in an index
+pub record IsLongAlone (d : Catalogue) (shapes : ℕ → Shape) (state : ℕ → List Value → RowState) (t : ℕ) (cs : List Change) : Type 0 where
+  pub table : Table
+  pub is : d.tables t ≡ Some table
+  pub change : Change
+  pub among : IsAmong change cs
+  pub long : IsLong (spelled (columns_on (table_path table)) change.row) ⊎ IsLongAloneIn d shapes state table change
+
+-- Why a batch of these changes isn't done: a key that it needs is too long, it writes too many cells or bytes in the table or in a maintained index, or no
+-- stamp is left. That the trail, the log and a region have no room is none of the tables'
+abbrev pub IsOfBatch : Tables → ℕ → List Change → Limit → Type 0
+IsOfBatch x t cs bound.Key = IsLongAlone x.catalogue x.shapes (λ u r. state_in x u r greatest_stamp) t cs
+IsOfBatch x t cs bound.Cells = WritesTooMuch (λ sizes. length sizes) bound.Cells x.catalogue (x.shapes t) (λ r. state_in x t r greatest_stamp) t cs
+IsOfBatch x t cs bound.Bytes = WritesTooMuch (λ sizes. sum_by (λ n. n) sizes) bound.Bytes x.catalogue (x.shapes t) (λ r. state_in x t r greatest_stamp) t cs
+IsOfBatch x t cs bound.Stamps = most_of bound.Stamps ≤ x.last t
+IsOfBatch x t cs bound.Trail = Unit {0}
+IsOfBatch x t cs bound.Log = Unit {0}
+IsOfBatch x t cs bound.Region = Unit {0}
+IsOfBatch x t cs which = ⊥
+
+-- the limits of which the tables tell
+abbrev pub IsToldByTables : Limit → Type 0
+IsToldByTables bound.Key = Unit {0}
+IsToldByTables bound.Cells = Unit {0}
+IsToldByTables bound.Bytes = Unit {0}
+IsToldByTables bound.Stamps = Unit {0}
+IsToldByTables which = ⊥
+
+-- a batch of these changes passes none of them
+abbrev pub PassesNoLimit : Tables → ℕ → List Change → Type 0
+PassesNoLimit x t cs = (which : Limit) → IsToldByTables which → IsOfBatch x t cs which → ⊥
+
+-- each part is a batch whose stamp is drawn behind the one before, and that passes no limit where the parts before it are done
+abbrev pub AreBatchesDone : Tables → TableId → List (List Change) → List ℕ → Type 0
+AreBatchesDone x t [] [] = Unit {0}
+AreBatchesDone x t (cs ∷ parts) (stamp ∷ stamps) = IsStampDrawn x t.0 stamp × PassesNoLimit x t.0 cs × AreBatchesDone (after x (Begun t stamp cs)) t parts stamps
+AreBatchesDone x t parts stamps = ⊥
 
 -- the next so many numbers would pass the greatest
 abbrev pub RunsOutIn : Tables → ℕ → Type 0
 RunsOutIn x n = most_of bound.Ids + 1 < x.catalogue.next + n
 
 -- so many tables stand already, or indexes of the table, or no number or no stamp is left
-abbrev pub IsOfDefinition : Tables → Statement → Limit → Type 0
-IsOfDefinition x (s.CreateTable t) bound.Tables = most_of bound.Tables ≤ count_below x.catalogue.tables x.catalogue.next
-IsOfDefinition x (s.CreateTable t) bound.Ids = RunsOutIn x (length (new_table t).least_keys + 1)
-IsOfDefinition x (s.CreateIndex i) bound.Indexes = (z : Table) × Stands x z i.table × (most_of bound.Indexes ≤ count_below (λ n. of_table z.id.0 (x.catalogue.indexes n)) x.catalogue.next)
-IsOfDefinition x (s.CreateIndex i) bound.Stamps = (z : Table) × Stands x z i.table × (most_of bound.Stamps ≤ x.last z.id.0)
-IsOfDefinition x (s.CreateIndex i) bound.Ids = RunsOutIn x 2
-IsOfDefinition x (s.AlterIndex i) bound.Stamps = (z : Table) × Stands x z i.table × (most_of bound.Stamps ≤ x.last z.id.0)
-IsOfDefinition x (s.AlterIndex i) bound.Ids = RunsOutIn x 1
-IsOfDefinition x y which = ⊥
+abbrev pub IsOfDefinition : Tables → Definition → Limit → Type 0
+IsOfDefinition x (d.Table what) bound.Tables = most_of bound.Tables ≤ count_below x.catalogue.tables x.catalogue.next
+IsOfDefinition x (d.Table what) bound.Ids = RunsOutIn x (length what.least_keys + 1)
+IsOfDefinition x (d.Index what) bound.Indexes = most_of bound.Indexes ≤ count_below (λ n. of_table what.table.0 (x.catalogue.indexes n)) x.catalogue.next
+IsOfDefinition x (d.Index what) bound.Stamps = most_of bound.Stamps ≤ x.last what.table.0
+IsOfDefinition x (d.Index what) bound.Ids = RunsOutIn x 2
+IsOfDefinition x (d.Rebuilding t i) bound.Stamps = most_of bound.Stamps ≤ x.last t.0
+IsOfDefinition x (d.Rebuilding t i) bound.Ids = RunsOutIn x 1
+IsOfDefinition x e which = ⊥
 
 -- ---- 6. Status
 
@@ -255,12 +290,12 @@ pub data ComesAlone (x : Tables) (st : Settings) (p : SeenPiece) (o : AloneOutco
       → Tells o (reply.Rows answer) st → ComesAlone x st p o
   is_below_horizon : (q : Select) (f : Found) (scn : ℕ) → IsReadItem p (Ok (s.Select q)) → HasTable x f q.table → select_faults f.table.columns q ≡ [] → st.scn ≡ Some scn → scn - 1 < x.horizon f.table.id.0
       → TellsRefusal o (refusal.BelowHorizon (x.horizon f.table.id.0)) st → ComesAlone x st p o
-  is_joined : (q : Select) (f : Found) (query : Query) (point : ℕ) → IsReadItem p (Ok (s.Select q)) → HasTable x f q.table → select_faults f.table.columns q ≡ [] → IsQuery f.table q query → joins_at (asked_of query) f point ≡ true
+  is_joined : (q : Select) (f : Found) (query : Query) → IsReadItem p (Ok (s.Select q)) → HasTable x f q.table → select_faults f.table.columns q ≡ [] → IsQuery f.table q query → IsKept x f.table.id.0 st.scn → joins_at (asked_of query) f (point_stamp x f.table.id.0 st.scn) ≡ true
       → TellsRefusal o refusal.IndexJoin st → ComesAlone x st p o
   is_explained : (q : Select) (f : Found) (plan : Plan) → IsReadItem p (Ok (s.Explain q)) → HasTable x f q.table → IsPlanned f st.scn q (Ok plan) → Tells o (reply.Explained (explained plan)) st → ComesAlone x st p o
   is_not_explained : (q : Select) (f : Found) → IsReadItem p (Ok (s.Explain q)) → HasTable x f q.table → IsPlanned f st.scn q (Err IndexJoin) → TellsRefusal o refusal.IndexJoin st → ComesAlone x st p o
   -- an UPSERT: a batch of one row, or a row that is held
-  is_changed : (u : Upsert) (f : Found) (stamp : ℕ) → IsReadItem p (Ok (s.Upsert u)) → st.scn ≡ None → st.autocommit ≡ true → HasTable x f u.table → upsert_faults f.table u ≡ [] → IsStampDrawn x f.table.id.0 stamp
+  is_changed : (u : Upsert) (f : Found) (stamp : ℕ) → IsReadItem p (Ok (s.Upsert u)) → st.scn ≡ None → st.autocommit ≡ true → HasTable x f u.table → upsert_faults f.table u ≡ [] → IsStampDrawn x f.table.id.0 stamp → PassesNoLimit x f.table.id.0 (one_change f u)
       → DoesBatch o f.table.id stamp (one_change f u) (reply.Count 1 Affected) (next_is.Next st) → ComesAlone x st p o
   is_held : (u : Upsert) (f : Found) (st' : Settings) → IsReadItem p (Ok (s.Upsert u)) → st.scn ≡ None → st.autocommit ≡ false → HasTable x f u.table → upsert_faults f.table u ≡ [] → IsHolding f.table (upsert_change f.table u) st st'
       → Tells o (reply.Count 1 Held) st' → ComesAlone x st p o
@@ -268,32 +303,30 @@ pub data ComesAlone (x : Tables) (st : Settings) (p : SeenPiece) (o : AloneOutco
       → TellsRefusal o (refusal.Limit bound.Rows) st → ComesAlone x st p o
   -- a DELETE: the rows that a query finds, in batches of 1,000; or their removals are held
   is_deleted : (y : Delete) (f : Found) (cs : List Change) (parts : List (List Change)) (stamps : List ℕ) → IsReadItem p (Ok (s.Delete y)) → st.scn ≡ None → st.autocommit ≡ true → HasTable x f y.table → delete_faults f.table.columns y ≡ [] → AreRowsFound x f y cs
-      → IsSplit cs parts [] → AreStampsDrawn x f.table.id parts stamps → o ≡ record { stamps = stamps; reply = reply.Count (length cs) Affected; next = next_is.Next st; acts = batches f.table.id parts stamps } → ComesAlone x st p o
+      → IsSplit cs parts [] → AreBatchesDone x f.table.id parts stamps → o ≡ record { stamps = stamps; reply = reply.Count (length cs) Affected; next = next_is.Next st; acts = batches f.table.id parts stamps } → ComesAlone x st p o
   is_not_deleted : (y : Delete) (f : Found) (cs rest : List Change) (parts : List (List Change)) (stamps : List ℕ) (which : Limit) → IsReadItem p (Ok (s.Delete y)) → st.scn ≡ None → st.autocommit ≡ true → HasTable x f y.table → delete_faults f.table.columns y ≡ [] → AreRowsFound x f y cs
-      → IsSplit cs parts rest → rest ≢ [] → AreStampsDrawn x f.table.id parts stamps → IsOfBatch which → o ≡ record { stamps = stamps; reply = reply.Refused (refusal.Limit which); next = next_is.Next st; acts = batches f.table.id parts stamps } → ComesAlone x st p o
+      → IsSplit cs parts rest → rest ≢ [] → AreBatchesDone x f.table.id parts stamps → IsOfBatch (after_all x (batches f.table.id parts stamps)) f.table.id.0 (take 1000 rest) which → o ≡ record { stamps = stamps; reply = reply.Refused (refusal.Limit which); next = next_is.Next st; acts = batches f.table.id parts stamps } → ComesAlone x st p o
   are_held : (y : Delete) (f : Found) (cs : List Change) (st' : Settings) → IsReadItem p (Ok (s.Delete y)) → st.scn ≡ None → st.autocommit ≡ false → HasTable x f y.table → delete_faults f.table.columns y ≡ [] → AreRowsFound x f y cs → IsHoldingAll f.table cs st st'
       → Tells o (reply.Count (length cs) Held) st' → ComesAlone x st p o
   are_too_many : (y : Delete) (f : Found) (cs : List Change) → IsReadItem p (Ok (s.Delete y)) → st.scn ≡ None → st.autocommit ≡ false → HasTable x f y.table → delete_faults f.table.columns y ≡ [] → AreRowsFound x f y cs → AreTooManyOf f.table cs st
       → TellsRefusal o (refusal.Limit bound.Rows) st → ComesAlone x st p o
-  -- a commit: one batch of what is held, of which nothing is held then; or its table is gone
-  is_committed : (again : Bool) (h : HeldData) (stamp : ℕ) → st.held ≡ Some h → AsksForCommit x st p h again → IsStampDrawn x h.table.0 stamp → DoesBatch o h.table stamp h.changes (reply.Count (length h.changes) Affected) (after_commit again (emptied st)) → ComesAlone x st p o
+  -- a commit: one batch of what is held, of which nothing is held then, where its table stands; or its table is gone
+  is_committed : (again : Bool) (h : HeldData) (stamp : ℕ) → st.held ≡ Some h → AsksForCommit x st p h again → IsSome (x.catalogue.tables h.table.0) → IsStampDrawn x h.table.0 stamp → PassesNoLimit x h.table.0 h.changes → DoesBatch o h.table stamp h.changes (reply.Count (length h.changes) Affected) (after_commit again (emptied st)) → ComesAlone x st p o
   is_gone : (again : Bool) (h : HeldData) → st.held ≡ Some h → AsksForCommit x st p h again → IsTableGone x h → TellsRefusal o (refusal.NoTable h.name) (emptied st) → ComesAlone x st p o
   -- a batch that is refused by a limit does nothing
-  is_limited : (u : Upsert) (f : Found) (which : Limit) → IsReadItem p (Ok (s.Upsert u)) → st.scn ≡ None → st.autocommit ≡ true → HasTable x f u.table → upsert_faults f.table u ≡ [] → IsOfBatch which → TellsRefusal o (refusal.Limit which) st → ComesAlone x st p o
-  is_not_committed : (again : Bool) (h : HeldData) (which : Limit) → st.held ≡ Some h → AsksForCommit x st p h again → IsOfBatch which → TellsRefusal o (refusal.Limit which) (emptied st) → ComesAlone x st p o
-  -- definitions: a table that is made; a DROP, and an index that is disabled; and an index that is built, at once
-  is_created : (t : CreateTable) (m : Made) → IsReadItem p (Ok (s.CreateTable t)) → is_none_of t.splits ≡ true → st.scn ≡ None → table_faults t ≡ [] → IsFreeName x.catalogue t.name → IsDefinitionMade (d.Table (new_table t)) m → TakesNext x (d.Table (new_table t)) m
-      → o ≡ record { stamps = []; reply = reply.Defined defined.TableCreated; next = next_is.Next st; acts = act_of (d.Table (new_table t)) m ∷ [] } → ComesAlone x st p o
+  is_limited : (u : Upsert) (f : Found) (which : Limit) → IsReadItem p (Ok (s.Upsert u)) → st.scn ≡ None → st.autocommit ≡ true → HasTable x f u.table → upsert_faults f.table u ≡ [] → IsOfBatch x f.table.id.0 (one_change f u) which → TellsRefusal o (refusal.Limit which) st → ComesAlone x st p o
+  is_not_committed : (again : Bool) (h : HeldData) (which : Limit) → st.held ≡ Some h → AsksForCommit x st p h again → IsSome (x.catalogue.tables h.table.0) → IsOfBatch x h.table.0 h.changes which → TellsRefusal o (refusal.Limit which) (emptied st) → ComesAlone x st p o
+  -- definitions: a table that is made, a DROP, and an index that is disabled; and an index that is built, at once
   is_defined : (y : Statement) (e : Definition) (m : Made) → IsReadItem p (Ok y) → st.scn ≡ None → AsksFor x y e → to_build e ≡ None → IsDefinitionMade e m → TakesNext x e m
       → o ≡ record { stamps = []; reply = reply.Defined (definition_word y); next = next_is.Next st; acts = act_of e m ∷ [] } → ComesAlone x st p o
   is_built : (y : Statement) (e : Definition) (t : TableId) (m : Made) (again : List ℕ) (birth : ℕ) → IsReadItem p (Ok y) → st.scn ≡ None → AsksFor x y e → to_build e ≡ Some t → IsDefinitionMade e m → TakesNext x e m
       → o ≡ record { stamps = stamps_of e m ++ again; reply = reply.Defined (definition_word y); next = next_is.Next st; acts = act_of e m ∷ (built_again t (index_id_made m) again ++ IndexState t (index_id_made m) states.Active birth ∷ []) } → ComesAlone x st p o
   is_not_built : (y : Statement) (e : Definition) (t : TableId) (m : Made) (again : List ℕ) (left : List Act) (why : Refusal) → IsReadItem p (Ok y) → st.scn ≡ None → AsksFor x y e → to_build e ≡ Some t
-      → IsDefinitionMade e m → TakesNext x e m → StopsBuild x t why → LeavesIndex t (index_id_made m) left
+      → IsDefinitionMade e m → TakesNext x e m → StopsBuild y why → LeavesIndex t (index_id_made m) left
       → o ≡ record { stamps = stamps_of e m ++ again; reply = reply.Refused why; next = next_is.Next st; acts = act_of e m ∷ (built_again t (index_id_made m) again ++ left) } → ComesAlone x st p o
-  is_taken : (y : Statement) (name : List ℕ) → IsReadItem p (Ok y) → st.scn ≡ None → MakesOf y name → HasName x.catalogue name → Tells o (name_taken y) st → ComesAlone x st p o
+  is_taken : (y : Statement) (e : Definition) → IsReadItem p (Ok y) → st.scn ≡ None → AsksFor x y e → IsNameTaken x e → Tells o (name_taken y) st → ComesAlone x st p o
   is_index_absent : (i : DropIndex) (f : Found) → IsReadItem p (Ok (s.DropIndex i)) → st.scn ≡ None → HasTable x f i.table → i.if_exists ≡ true → index_id_named f.indexes i.name ≡ None → Tells o (reply.Defined defined.IndexAbsent) st → ComesAlone x st p o
-  is_not_defined : (y : Statement) (which : Limit) → IsReadItem p (Ok y) → st.scn ≡ None → IsOfDefinition x y which → TellsRefusal o (refusal.Limit which) st → ComesAlone x st p o
+  is_not_defined : (y : Statement) (e : Definition) (which : Limit) → IsReadItem p (Ok y) → st.scn ≡ None → AsksFor x y e → IsOfDefinition x e which → TellsRefusal o (refusal.Limit which) st → ComesAlone x st p o
   -- a status, a flush and a compaction
   is_counted : (name : List ℕ) (f : Found) (r : Status) → IsCommandRead p (Ok (commands.Status name)) → HasTable x f name → IsStatus x f.table.id.0 r → Tells o (reply.Status r) st → ComesAlone x st p o
   is_not_counted : (name : List ℕ) → IsCommandRead p (Ok (commands.Status name)) → HasNoTable x name → TellsRefusal o (refusal.NoTable name) st → ComesAlone x st p o
