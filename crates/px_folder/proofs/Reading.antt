@@ -30,7 +30,7 @@ use Rattle.px_catalog.proofs.Opening.{stands_once}
 use Rattle.px_folder.proofs.Same.{one_sound}
 use Rattle.px_folder.specs.Damage.{IsDamagedBelow, IsDamagedIn, IsWhole, in_numbers, in_region}
 use Rattle.px_folder.specs.Drawn.{AreDrawn, IsDrawnIndex, IsDrawnTable, IsRegionDrawn}
-use Rattle.px_folder.specs.Read.{IsReadOn, data_at, folder_by, number_of_open_region}
+use Rattle.px_folder.specs.Read.{IsReadOn, PartsStandFor, data_at, folder_by, number_of_open_region}
 use Rattle.px_folder.proofs.Found.{at_all, at_none}
 use Rattle.px_folder.proofs.Local.{damaged_local, stands_local}
 use Rattle.px_folder.proofs.Once.{among_permuted}
@@ -44,6 +44,10 @@ pub parts_at : (numbers : List ℕ) (i : ℕ) → i < length numbers → numbers
 parts_at [] i lt = absurd (omega arith)
 parts_at (n ∷ numbers) zero lt = refl
 parts_at (n ∷ numbers) (suc i) lt = ap (λ (l : List ℕ). n ∷ l) (parts_at numbers i (omega arith))
+
+-- the parts, and no byte in the files of regions that are still to be made
+pub whole_stands : (image : Image) (f : FolderData) → PartsStandFor image f → IsEmptyFrom f.standing.next image → StandsFor image f
+whole_stands image f stood empty = record { parts = stood.parts; fresh = empty; unmade = stood.unmade }
 
 module _ {D : Type 0} (d : Ghosts D) where
   -- ---- regions, one after another
@@ -167,8 +171,8 @@ module _ (s : Standing) (rs : List Region) (drawn : AreDrawn s) (moved : IsPermu
         both (IsReadOn d old new) (IsReadOn d old new) (λ r. r.number ≡ n → StandsIn d new (HasFile n) (λ image. RegionStands n image (data_of r)))
         (λ r one two same. subst (λ (k : ℕ). StandsIn d new (HasFile k) (λ image. RegionStands k image (data_of r))) same (holds_stands d r new (data_of r) one.holds)) rs read read
 
-    pub read_stood : CatalogueStands (d.seen old) s → IsEmptyFrom s.next (d.seen old) → StandsFor (d.seen old) (folder_by s rs)
-    read_stood catalogue empty = record { parts = each; fresh = empty; unmade = unmade }
+    pub read_stood : CatalogueStands (d.seen old) s → PartsStandFor (d.seen old) (folder_by s rs)
+    read_stood catalogue = record { parts = each; unmade = unmade }
       where
         each : (n : ℕ) → IsKeptPart s n → PartStands n (d.seen old) (part_of (folder_by s rs) n)
         each zero kept = catalogue
@@ -221,14 +225,14 @@ module _ {D : Type 0} (d : Ghosts D) (old mid new : D) (touches : TouchesOnly d 
     pub folder_read : All (IsReadOn d old new) rs
     folder_read = All-from_recursion (IsReadOn d old new) rs all_before
 
-    pub folder_stood : CatalogueStands (d.seen old) (standing_of c) → IsEmptyFrom (standing_of c).next (d.seen old) → StandsFor (d.seen old) (folder_by (standing_of c) rs)
+    pub folder_stood : CatalogueStands (d.seen old) (standing_of c) → PartsStandFor (d.seen old) (folder_by (standing_of c) rs)
     folder_stood = read_stood (standing_of c) rs drawn moved d old new all_before
 
     -- a sound image stands for what was read of it
     pub folder_sound : CatalogueStands (d.seen old) (standing_of c) → IsSound (d.seen old) → StandsFor (d.seen old) (folder_by (standing_of c) rs) × IsSoundFolder (folder_by (standing_of c) rs)
     folder_sound catalogue sound =
         let same = stands_once (d.seen old) sound.folder.standing (standing_of c) (sound.stands.parts 0 tt) catalogue in
-        let stood = folder_stood catalogue (subst (λ (s : Standing). IsEmptyFrom s.next (d.seen old)) same sound.stands.fresh) in
+        let stood = whole_stands (d.seen old) (folder_by (standing_of c) rs) (folder_stood catalogue) (subst (λ (s : Standing). IsEmptyFrom s.next (d.seen old)) same sound.stands.fresh) in
         (stood, one_sound (d.seen old) sound.folder (folder_by (standing_of c) rs) sound.stands stood sound.sound)
 
     pub folder_stands : HasCatalogue d c mid → AreFresh d old (standing_of c).next → StandsOn d new (folder_by (standing_of c) rs)

@@ -5,8 +5,8 @@ ghost use Rattle.px_outside.specs.OnDisk.{LeavesOnly, Passes, Rose, Stays, Touch
 ghost use Rattle.px_outside.specs.Parts.{AreDistinct};
 ghost use Rattle.px_catalog.specs.Catalogue.{CatalogueStands, HasCatalogue, catalogue_files, is_catalogue_open, standing_of};
 ghost use Rattle.px_recovery.specs.Base.{IsSound, IsSoundFolder};
-ghost use Rattle.px_recovery.specs.Folder.{AreFresh, FolderData, IsEmptyFrom, StandsFor, StandsOn, region_numbers};
-ghost use Rattle.px_folder.specs.Read.{IsReadOn, folder_of, number_of_open_region};
+ghost use Rattle.px_recovery.specs.Folder.{AreFresh, FolderData, StandsFor, StandsOn, region_numbers};
+ghost use Rattle.px_folder.specs.Read.{IsReadOn, PartsStandFor, folder_of, number_of_open_region};
 ghost use Rattle.px_folder.specs.Calls.{AreOpenedBy};
 ghost use Rattle.px_folder.specs.Drawn.{AreDrawn};
 ghost use Rattle.px_folder.specs.Damage.{IsDamagedBelow, IsDamagedIn, IsFirstDamaged};
@@ -99,8 +99,8 @@ impl Folder {
 
         ensures definitions { IsTrue D.tells → IfOk result (λ w. CatalogueStands (D.seen disk.old) (standing_of w.catalog)) }
 
-        // The files stood for what was read, where no file of a region that is still to be made has a byte.
-        ensures stood { IsTrue D.tells → IfOk result (λ w. IsEmptyFrom (standing_of w.catalog).next (D.seen disk.old) → StandsFor (D.seen disk.old) (folder_of w)) }
+        // The files stood for all that was read, be the folder sound or not.
+        ensures stood { IsTrue D.tells → IfOk result (λ w. PartsStandFor (D.seen disk.old) (folder_of w)) }
         ensures sound { IsTrue D.tells → IsSound (D.seen disk.old) → IfOk result (λ w. StandsFor (D.seen disk.old) (folder_of w) × IsSoundFolder (folder_of w)) }
         ensures stands { IsTrue D.tells → IfOk result (λ w. AreFresh ⟦<D as Disk>⟧ disk.old (standing_of w.catalog).next → StandsOn ⟦<D as Disk>⟧ disk.new (folder_of w)) }
         ensures catalogue { IsTrue D.tells → IfOk result (λ w. HasCatalogue ⟦<D as Disk>⟧ w.catalog disk.new) }

@@ -5,11 +5,11 @@ ghost use Rattle.px_outside.specs.Parts.{AreDistinct};
 ghost use Rattle.px_region.specs.Region.{RegionData};
 ghost use Rattle.px_catalog.specs.Catalogue.{HasCatalogue, catalogue_files, is_catalogue_open, standing_of};
 ghost use Rattle.px_recovery.specs.Base.{IsSound, IsSoundFolder};
-ghost use Rattle.px_recovery.specs.Folder.{AreFresh, FolderData, IsEmptyFrom, StandsFor, StandsOn, region_numbers};
+ghost use Rattle.px_recovery.specs.Folder.{AreFresh, FolderData, StandsFor, StandsOn, region_numbers};
 ghost use Rattle.px_folder.specs.Calls.{AreOpenedBy};
 ghost use Rattle.px_folder.specs.Damage.{IsFirstDamaged};
 ghost use Rattle.px_folder.specs.Drawn.{AreDrawn};
-ghost use Rattle.px_folder.specs.Read.{IsReadOn, folder_by, number_of_open_region};
+ghost use Rattle.px_folder.specs.Read.{IsReadOn, PartsStandFor, folder_by, number_of_open_region};
 ghost use Rattle.px_opening.specs.Definitions.{AreRight};
 ghost use Rattle.px_opening.specs.Opened.{IsDataOf, IsGroupOf, IsOpenedRight, all_regions, folder_in, regions_in, table_in_group};
 
@@ -107,8 +107,8 @@ pub fn open<D: Disk>(alloc: Global, disk: &mut D) -> Result<Opened, OpenFault>
     ensures opened { IfOk result IsOpenedRight }
     ensures open { IfOk result (λ o. is_catalogue_open o.catalog) }
 
-    // The files stood for what was read, where no file of a region that is still to be made has a byte; and this was sound where they were.
-    ensures stood { IsTrue D.tells → IfOk result (λ o. IsEmptyFrom (standing_of o.catalog).next (D.seen disk.old) → StandsFor (D.seen disk.old) (folder_in o)) }
+    // The files stood for all that was opened, be the folder sound or not; and this was sound where they were.
+    ensures stood { IsTrue D.tells → IfOk result (λ o. PartsStandFor (D.seen disk.old) (folder_in o)) }
     ensures sound { IsTrue D.tells → IsSound (D.seen disk.old) → IfOk result (λ o. StandsFor (D.seen disk.old) (folder_in o) × IsSoundFolder (folder_in o)) }
     ensures stands { IsTrue D.tells → IfOk result (λ o. AreFresh ⟦<D as Disk>⟧ disk.old (standing_of o.catalog).next → StandsOn ⟦<D as Disk>⟧ disk.new (folder_in o)) }
     ensures catalogue { IsTrue D.tells → IfOk result (λ o. HasCatalogue ⟦<D as Disk>⟧ o.catalog disk.new) }

@@ -188,12 +188,12 @@ found_balanced : (sound : Type 0) (p : Planned) (k : Known) (first : ℕ) (acts 
 found_balanced sound p k first acts cs h = subst IsBalanced (sym h.outcome.1) (balanced-point _ _ _)
 
 -- each batch that was made is ended
-made_balanced : (k : Known) (t : TableId) (parts : List (List Change)) (rs : List Receipt) (acts : List Act) → deleting.AreMade k t parts rs acts → IsBalanced acts
-made_balanced k t [] [] acts m = subst IsBalanced (sym m) balanced-none
-made_balanced k t [] (r ∷ rs) acts m = absurd m
-made_balanced k t (cs ∷ parts) [] acts m = absurd m
-made_balanced k t (cs ∷ parts) (r ∷ rs) acts m =
-    subst IsBalanced (sym m.2) (balanced-append m.0 m.1 (subst IsBalanced (sym m.3.ended.one) (balanced-batch t r.stamp cs)) (made_balanced k t parts rs m.1 m.4))
+made_balanced : (sound : Type 0) (k : Known) (t : TableId) (parts : List (List Change)) (rs : List Receipt) (acts : List Act) → deleting.AreMade sound k t parts rs acts → IsBalanced acts
+made_balanced sound k t [] [] acts m = subst IsBalanced (sym m) balanced-none
+made_balanced sound k t [] (r ∷ rs) acts m = absurd m
+made_balanced sound k t (cs ∷ parts) [] acts m = absurd m
+made_balanced sound k t (cs ∷ parts) (r ∷ rs) acts m =
+    subst IsBalanced (sym m.2) (balanced-append m.0 m.1 (subst IsBalanced (sym m.3.ended.one) (balanced-batch t r.stamp cs)) (made_balanced sound k t parts rs m.1 m.4))
 
 -- ---- 4. One item
 
@@ -318,7 +318,7 @@ module _ (sound : Type 0) (k : Known) where
   stopped_balanced : (name : List ℕ) (p : Planned) (own : List Act) (rs : List Receipt) (f : BatchFault) → deleting.HasStopped sound p own k rs f → is_fatal (reply.Refused (batch_refusal name f)) ≡ false → IsBalanced own
   stopped_balanced name p own rs f h go =
       let found = found_balanced sound p k h.first h.finding h.changes h.found in
-      let made = made_balanced k p.table.id h.parts rs h.making h.made in
+      let made = made_balanced sound k p.table.id h.parts rs h.making h.made in
       let stopped = batch_balanced name p.table.id (take 1000 h.rest) f h.stopping h.outcome.1 go in
       subst IsBalanced (sym h.own_is) (balanced-append h.finding (h.making ++ h.stopping) found (balanced-append h.making h.stopping made stopped))
 
@@ -419,7 +419,7 @@ module _ (sound : Type 0) (k : Known) where
       not_selected q.table (query_of x) st.scn fault own a.reply outcome.0 outcome.1 (⊎_elim (λ is. inl is.0) (λ is. inr is.0) says)
   fair before own st p a (right.is_deleted x f m read scn on bound fits h first says) =
       did own _ a.reply (reply.Count m.rows Affected) h.own_is
-      (balanced-append h.finding h.making (found_balanced sound (right.deletion_query f x) k m.first h.finding h.changes h.found) (made_balanced k f.table.id h.parts a.receipts h.making h.made)) says.0 refl
+      (balanced-append h.finding h.making (found_balanced sound (right.deletion_query f x) k m.first h.finding h.changes h.found) (made_balanced sound k f.table.id h.parts a.receipts h.making h.made)) says.0 refl
   fair before own st p a (right.is_not_deleted x f fault read scn on bound fits h since stops says) = not_deleted x.table (right.deletion_query f x) own a.receipts fault a.reply h stops
   fair before own st p a (right.is_not_found x f fault read scn bound fits outcome since says) =
       not_selected x.table (query_of (right.deletion_query f x)) None fault own a.reply outcome.0 outcome.1 (⊎_elim (λ is. inl is.0) (λ is. inr is.0) says)

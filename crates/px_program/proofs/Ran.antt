@@ -10,10 +10,11 @@ use Rattle.px_outside.specs.declared.disk.Disk.{Ghosts as DiskGhosts}
 use Rattle.px_outside.specs.declared.sink.Sink.{Ghosts as SinkGhosts}
 use Rattle.px_outside.specs.declared.source.Source.{Ghosts as SourceGhosts}
 use Rattle.px_recovery.specs.Base.{IsSound, IsSoundFolder, base_of}
-use Rattle.px_recovery.specs.Folder.{FolderData, IsEmptyFrom, StandsFor, StandsOn, region_numbers}
+use Rattle.px_recovery.specs.Folder.{FolderData, StandsFor, StandsOn, region_numbers}
 use Rattle.px_recovery.specs.Stands.{Recovers}
 use Rattle.px_folder.specs.Calls.{AreOpenedBy}
 use Rattle.px_folder.specs.Damage.{IsFirstDamaged}
+use Rattle.px_folder.specs.Read.{PartsStandFor}
 use Rattle.px_program.specs.Answers.{printed_for}
 use Rattle.px_opening.specs.Opened.{folder_in}
 use Rattle.px_opening.specs.declared.fault.OpenFault.{OpenFault}
@@ -89,7 +90,7 @@ module _ {D C O : Type 0} (d : DiskGhosts D) (c : ClockGhosts C) (k : SinkGhosts
 
   -- what was opened: the folder was sound where the disk was, and so are the images that were left by then
   pub opened_ran : (tells_left : (x : D) (moment file : ℕ) (bytes : List ℕ) → d.left x moment file bytes → IsTrue d.tells) (w : Opened)
-      → (IsTrue d.tells → IsEmptyFrom (folder_in w).standing.next (d.seen old) → StandsFor (d.seen old) (folder_in w))
+      → (IsTrue d.tells → PartsStandFor (d.seen old) (folder_in w))
       → (IsTrue d.tells → IsSound (d.seen old) → StandsFor (d.seen old) (folder_in w) × IsSoundFolder (folder_in w))
       → ((calls : ℕ → ℕ) → IsTrue d.tells → AreOpenedBy (d.seen old) (region_numbers (folder_in w).standing) calls → Passes d old new (17 + sum_by calls (region_numbers (folder_in w).standing))) → (IsTrue d.tells → TouchesOnly d old new catalogue_files)
       → (StartsSound d old → IsTrue d.tells → IsOpenedOn d new w) → (ReadsSound d old → IsTrue d.tells → IsOpenedNow d new w)

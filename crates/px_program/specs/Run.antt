@@ -15,11 +15,12 @@ use Rattle.px_alone.specs.Alone.{AreQuiet}
 use Rattle.px_reply.specs.declared.transcript.Transcript.{Transcript}
 use Rattle.px_catalog.specs.Catalogue.{catalogue_files}
 use Rattle.px_recovery.specs.Base.{IsSound, IsSoundFolder, base_of}
-use Rattle.px_recovery.specs.Folder.{FolderData, IsEmptyFrom, StandsFor, from, region_numbers}
+use Rattle.px_recovery.specs.Folder.{FolderData, StandsFor, from, region_numbers}
 use Rattle.px_recovery.specs.Kept.{IsLate}
 use Rattle.px_recovery.specs.Stands.{Recovers}
 use Rattle.px_folder.specs.Calls.{AreOpenedBy}
 use Rattle.px_folder.specs.Damage.{IsFirstDamaged}
+use Rattle.px_folder.specs.Read.{PartsStandFor}
 use Rattle.px_rounds.specs.Written.{IsTextWritten}
 use Rattle.px_server.specs.Kept.{HasFailed, has_told}
 use Rattle.px_server.specs.Others.{part_files}
@@ -123,9 +124,10 @@ AsksFor s words input input' (jobs.Load l) = RunsLoad words input input' l
 
 -- ---- the trail
 
--- the folder that was there, as it was read, and what the trail's first entry is told over
+-- The folder that was there, as it was read, and what the trail's first entry is told over: the catalogue and each region that it names stood for it in
+-- the files, sound or not. So no folder is run of which the catalogue or such a region has a damaged place.
 pub record IsOrigin {D : Type 0} (d : DiskGhosts D) (disk : D) (folder : FolderData) : Type 0 where
-  pub stands : IsTrue d.tells → IsEmptyFrom folder.standing.next (d.seen disk) → StandsFor (d.seen disk) folder
+  pub stands : IsTrue d.tells → PartsStandFor (d.seen disk) folder
   pub sound : IsTrue d.tells → IsSound (d.seen disk) → StandsFor (d.seen disk) folder × IsSoundFolder folder
 
 -- The folder that reads give is sound, and no file of a region that is still to be drawn has a byte, whatever a stop leaves. All else that reads

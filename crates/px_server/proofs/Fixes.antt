@@ -44,7 +44,7 @@ use Rattle.px_repairs.specs.Repairs.{Fixes, HandsRepair, HasFailedRepair, HasFix
 use Rattle.px_repairs.specs.declared.repairing.RepairFault.{RepairFault}
 use Rattle.px_repairs.specs.declared.repairing.RepairFault.TheVariants.{Busy, NotReady, ReadFault, Damaged, WriteFault, Memory}
 use Rattle.px_repairs.proofs.Handing.{got_some}
-use Rattle.px_server.specs.Repairs.{Answers, IsMended, Mends, RefusesFix, StandsNoMore, AddsNoEntry}
+use Rattle.px_server.specs.Repairs.{Answers, IsMended, Mends, RefusesFix, StandsNoMore, StandsStill, AddsNoEntry}
 use Rattle.px_pointreads.proofs.Asked.{there_is}
 use Rattle.px_repairs.proofs.Right.{right_repaired, tallied_repaired, traced_repaired}
 use Rattle.px_repairs.proofs.Shown.{repair_steps, repaired_shown, repaired_steps}
@@ -364,10 +364,23 @@ module _ {D : Type 0} (d : Ghosts D) (groups : List Group) (place : ℕ) (g g' :
         gone = judged y.0 y.1.0;
       })
 
+  stands_still : HasOnlyLooked d g g' disk disk' → IsChangeUnderWay g' at q.key q.stamp → StandsStill then3 q
+  stands_still h w = record {
+    place = place;
+    group = g';
+    at = slice_there groups place g' l;
+    part = at;
+    index = w.index;
+    of = w.at;
+    id = named_looked g g' h.looked at q.index named w.index w.at;
+    stands = w.stands;
+    under_way = w.left;
+  }
+
   pub stayed_mends : (n : ℕ) (result : Result Fixing RepairFault) → AddsNoEntry result → Fixes d g g' disk disk' at q.key q.stamp result → (answer : Result Fixing StepFault) → Answers n result answer → IfOk answer (Mends groups then3 q)
   stayed_mends n (Ok fixing.Fixed) never f answer is = absurd never
   stayed_mends n (Ok fixing.Gone) here f answer is = subst (λ r. IfOk r (Mends groups then3 q)) (sym is) (inr (stands_no_more f.0 f.1))
-  stayed_mends n (Ok fixing.InFlight) here f answer is = subst (λ r. IfOk r (Mends groups then3 q)) (sym is) tt
+  stayed_mends n (Ok fixing.InFlight) here f answer is = subst (λ r. IfOk r (Mends groups then3 q)) (sym is) (stands_still f.0 f.1)
   stayed_mends n (Err (Busy cells bytes)) here f answer is = subst (λ r. IfOk r (Mends groups then3 q)) (sym is) tt
   stayed_mends n (Err NotReady) here f answer is = subst (λ r. IfOk r (Mends groups then3 q)) (sym is) tt
   stayed_mends n (Err WriteFault) never f answer is = absurd never

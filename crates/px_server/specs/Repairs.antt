@@ -1,5 +1,5 @@
 -- What is answered of a repair, and what becomes of the version.
-use Rattle.std.specs.Prelude.{◌≡◌, ◌⊎◌, ◌++◌, ℕ, false, List, Some, slice_get, Result, Ok, Err}
+use Rattle.std.specs.Prelude.{◌≡◌, ◌⊎◌, ◌++◌, ℕ, false, true, List, Some, slice_get, Result, Ok, Err}
 use Rattle.std.specs.List.{AllByRecursion, slice_set}
 use Rattle.px_cells.specs.CellData.{CellData}
 use Rattle.px_cells.specs.Order.{ReadsSame}
@@ -11,9 +11,11 @@ use Rattle.px_calls.specs.declared.query.Doubt.{Doubt}
 use Rattle.px_calls.specs.declared.query.Fixing.{Fixing}
 use Rattle.px_calls.specs.declared.query.Fixing.TheVariants as fixing
 use Rattle.px_phases.specs.Batch.{IsHanded}
+use Rattle.px_indexrow.specs.Form.{row_of_index}
 use Rattle.px_group.specs.declared.group.Group.{Group}
 use Rattle.px_group.specs.declared.group.IndexRegion.{IndexRegion}
 use Rattle.px_pointreads.specs.Points.{GroupLacksIndex}
+use Rattle.px_reading.specs.Doubts.{is_pending}
 use Rattle.px_reading.specs.Looked.{HasLooked}
 use Rattle.px_repairs.specs.Refused.{RefusesDue}
 use Rattle.px_repairs.specs.Repairs.{IsRegionStep, IsRepair, stands_in}
@@ -54,6 +56,18 @@ pub record StandsNoMore (groups : List Group) (d : Doubt) : Type 0 where
   pub id : index.index.id ≡ d.index
   pub gone : stands_in group index d.key d.stamp ≡ false
 
+-- it shows one, and an open batch of this stamp is still to write the row that the key is of (`IsChangeUnderWay`)
+pub record StandsStill (groups : List Group) (d : Doubt) : Type 0 where
+  pub place : ℕ
+  pub group : Group
+  pub at : slice_get groups place ≡ Some group
+  pub part : ℕ
+  pub index : IndexRegion
+  pub of : slice_get group.indexes.items part ≡ Some index
+  pub id : index.index.id ≡ d.index
+  pub stands : stands_in group index d.key d.stamp ≡ true
+  pub under_way : is_pending group d.stamp (row_of_index group.table index.index d.key) ≡ true
+
 -- The repair that was due (`IsRepair`) is written in the region of the doubt's index, before all that was there. All else stays, but for counts of rows
 -- looked at.
 pub record IsMended (groups groups' : List Group) (d : Doubt) : Type 0 where
@@ -75,12 +89,12 @@ pub record IsMended (groups groups' : List Group) (d : Doubt) : Type 0 where
   pub reads : ReadsSame (read_of region) (cells ++ read_of index.region)
   pub then : groups' ≡ slice_set groups place mended
 
--- What became of the doubt's version: it is gone only where no table has the index any more, or the index doesn't show it unverified. When it is in
--- flight the trail tells (`DidFix`).
+-- What became of the doubt's version: it is gone only where no table has the index any more, or the index doesn't show it unverified; and in flight only
+-- where the index does and the version's batch is still to write the row, of which the trail tells the rest (`DidFix`).
 abbrev pub Mends : List Group → List Group → Doubt → Fixing → Type 0
 Mends groups groups' d fixing.Fixed = IsMended groups groups' d
 Mends groups groups' d fixing.Gone = AllByRecursion (GroupLacksIndex d.index) groups ⊎ StandsNoMore groups' d
-Mends groups groups' d fixing.InFlight = Unit {0}
+Mends groups groups' d fixing.InFlight = StandsStill groups' d
 
 -- the region of the doubt's index, which has this number, refuses room for the repair that is due
 abbrev pub IsRefusedFix : List Group → Doubt → ℕ → RepairFault → Type 0

@@ -6,9 +6,9 @@ use Rattle.px_outside.specs.OnDisk.{Passes}
 use Rattle.px_catalog.specs.Catalogue.{standing_of}
 use Rattle.px_catalog.specs.declared.catalog.Catalog.{Catalog}
 use Rattle.px_recovery.specs.Base.{IsSoundFolder}
-use Rattle.px_recovery.specs.Folder.{AreFresh, FolderData, IsEmptyFrom, StandsFor, StandsOn, region_numbers}
+use Rattle.px_recovery.specs.Folder.{AreFresh, FolderData, StandsFor, StandsOn, region_numbers}
 use Rattle.px_folder.specs.Calls.{AreOpenedBy}
-use Rattle.px_folder.specs.Read.{IsReadOn, folder_of}
+use Rattle.px_folder.specs.Read.{IsReadOn, PartsStandFor, folder_of}
 use Rattle.px_folder.proofs.Reading.{ok_then}
 use Rattle.px_opening.specs.Opened.{all_regions, folder_in}
 use Rattle.px_opening.specs.declared.fault.OpenFault.TheVariants.{Damaged}
@@ -29,8 +29,8 @@ returns-clause-stood g c = λ tells.
     let old = c.args.disk.now in
     let seen = d.seen old in
     let w = c.in_ok-catalog.field-0 in
-    ok_with (λ (o : Opened). o.catalog ≡ w.catalog) (λ (o : Opened). folder_in o ≡ folder_of w) (λ (o : Opened). IsEmptyFrom (standing_of o.catalog).next seen → StandsFor seen (folder_in o))
-    (λ o p q empty. subst (λ (f : FolderData). StandsFor seen f) (sym q) (c.in_ok-catalog.ensures.stood tells (subst (λ (k : Catalog). IsEmptyFrom (standing_of k).next seen) p empty))) c.assembled.result c.assembled.ensures.catalogue c.assembled.ensures.folder
+    ok_then (λ (o : Opened). folder_in o ≡ folder_of w) (λ (o : Opened). PartsStandFor seen (folder_in o))
+    (λ o q. subst (λ (f : FolderData). PartsStandFor seen f) (sym q) (c.in_ok-catalog.ensures.stood tells)) c.assembled.result c.assembled.ensures.folder
 
 pub returns-clause-sound : goal.returns-clause-sound
 returns-clause-sound g c = λ tells sound.
